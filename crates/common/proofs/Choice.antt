@@ -1,0 +1,23 @@
+-- A choice by a test, and what holds of it by the test's two outcomes.
+use mathlib.Core.Path.{_≡_, refl, sym, _∙_}
+use mathlib.Core.Bool.{Bool, true, false, _&&_, cond, true≢false}
+
+-- what holds of either, each under its outcome, holds of the choice
+pub by-cond {ℓ κ} : {A : Type ℓ} (P : A → Type κ) (b : Bool) {x y : A} → (b ≡ true → P x) → (b ≡ false → P y) → P (cond b x y)
+by-cond P true f g = f refl
+by-cond P false f g = g refl
+
+-- a fact by cases of a test
+pub by-test {ℓ} : {P : Type ℓ} (b : Bool) → (b ≡ true → P) → (b ≡ false → P) → P
+by-test true f g = f refl
+by-test false f g = g refl
+
+pub absurd-test {ℓ} : {A : Type ℓ} {b : Bool} → b ≡ true → b ≡ false → A
+absurd-test p q = absurd (true≢false (sym p ∙ q))
+
+pub and-parts : (a b : Bool) → (a && b) ≡ true → (a ≡ true) × (b ≡ true)
+and-parts true b e = (refl, e)
+and-parts false b e = absurd-test e refl
+
+pub and-both : {a b : Bool} → a ≡ true → b ≡ true → (a && b) ≡ true
+and-both p q = rw (p, q)

@@ -1,0 +1,5 @@
+pub mod Answers
+pub mod Choice
+pub mod Every
+pub mod Parts
+pub mod Puts

@@ -1,0 +1,16 @@
+-- Parts of a list, as a part of a slice has them.
+use mathlib.Core.Path.{_≡_, refl, sym, ap, _∙_}
+use mathlib.Core.List.{List}
+use Prim.Native.Nat.{ℕ, _+_, _-_, _≤_}
+use native.Mathlib.Omega.{arith}
+use lib.ListN.{length, take, drop, length-take, length-drop}
+use lib.Seq.{take-all}
+use Rattle.common.specs.Bytes.{Bytes}
+
+-- the part from a on, `&s[a..]`
+pub part-from : (s : Bytes) (a : ℕ) → take (length s - a) (drop a s) ≡ drop a s
+part-from s a = take-all (length s - a) (drop a s) (simp length-drop (omega arith))
+
+-- a part of n elements from a on, `&s[a..a + n]`, has n elements
+pub part-length : (s : Bytes) (a n : ℕ) → a + n ≤ length s → length (take n (drop a s)) ≡ n
+part-length s a n h = simp (length-take, length-drop) (omega arith)

@@ -1,0 +1,37 @@
+// Writing into a lent buffer.
+ghost use mathlib.Core.List.{_++_};
+ghost use mathlib.Core.Path.{_≡_};
+ghost use Prim.Native.Nat.{_+_, _-_, _≤_};
+ghost use lib.ListN.{drop, length, replicate, take};
+ghost use Rattle.common.specs.Puts.{Puts};
+
+// A text of so many bytes is written, or the lent buffer is shorter than the need.
+pub enum Written {
+    Text(usize),
+    TooShort(usize),
+}
+
+// The bytes of word to at and on; the place past them.
+pub fn put(out: &mut [u8], at: usize, word: &[u8]) -> usize
+    requires { ⌜ at + length (now word) ≤ length (now out) ⌝ }
+    ensures { λ r. ⌜ Puts (now (out .entry)) at (now (word .entry)) (now (out .exit)) r ⌝ }
+{
+    let mut i = 0;
+    while i < word.len() {
+        out[at + i] = word[i];
+        i += 1;
+    }
+    at + i
+}
+
+// Zeros from at to the end.
+pub fn clear(out: &mut [u8], at: usize)
+    requires { ⌜ at ≤ length (now out) ⌝ }
+    ensures { λ r. ⌜ now (out .exit) ≡ take at (now (out .entry)) ++ replicate (length (now (out .entry)) - at) 0 ⌝ }
+{
+    let mut i = at;
+    while i < out.len() {
+        out[i] = 0;
+        i += 1;
+    }
+}

@@ -1,0 +1,5 @@
+pub mod CollapseLaws
+pub mod EscapeLaws
+pub mod SpaceLaws
+pub mod StruckLaws
+pub mod TrimLaws

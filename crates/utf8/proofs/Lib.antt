@@ -1,0 +1,4 @@
+pub mod Encodings
+pub mod Following
+pub mod Grammar
+pub mod Reading

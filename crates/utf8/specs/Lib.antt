@@ -1,0 +1,4 @@
+pub mod Abnf
+pub mod Encoding
+pub mod State
+pub mod Valid
