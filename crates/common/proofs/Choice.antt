@@ -1,6 +1,10 @@
 -- A choice by a test, and what holds of it by the test's two outcomes.
 use mathlib.Core.Path.{_≡_, refl, sym, _∙_}
 use mathlib.Core.Bool.{Bool, true, false, _&&_, cond, true≢false}
+use Prim.Native.Nat.{ℕ, _≤_}
+use native.Mathlib.Nat.{lt-of-not-le, not-le-of-lt}
+use lib.Dec.{leb}
+use borrow.Author.Tests.{leb-true, leb-false, le-leb, lt-leb}
 
 -- what holds of either, each under its outcome, holds of the choice
 pub by-cond {ℓ κ} : {A : Type ℓ} (P : A → Type κ) (b : Bool) {x y : A} → (b ≡ true → P x) → (b ≡ false → P y) → P (cond b x y)
@@ -21,3 +25,9 @@ and-parts false b e = absurd-test e refl
 
 pub and-both : {a b : Bool} → a ≡ true → b ≡ true → (a && b) ≡ true
 and-both p q = rw (p, q)
+
+-- two tests of order that hold together are equal
+pub leb-same : (a b c d : ℕ) → (a ≤ b → c ≤ d) → (c ≤ d → a ≤ b) → leb a b ≡ leb c d
+leb-same a b c d f g =
+    by-test (leb a b) (λ e. e ∙ sym (le-leb c d (f (leb-true a b e))))
+    (λ e. e ∙ sym (lt-leb c d (lt-of-not-le (λ h. not-le-of-lt (leb-false a b e) (g h)))))

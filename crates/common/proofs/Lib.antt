@@ -1,5 +1,6 @@
 pub mod Answers
 pub mod Choice
+pub mod Equality
 pub mod Every
 pub mod Parts
 pub mod Puts

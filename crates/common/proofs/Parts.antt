@@ -14,3 +14,7 @@ part-from s a = take-all (length s - a) (drop a s) (simp length-drop (omega arit
 -- a part of n elements from a on, `&s[a..a + n]`, has n elements
 pub part-length : (s : Bytes) (a n : ℕ) → a + n ≤ length s → length (take n (drop a s)) ≡ n
 part-length s a n h = simp (length-take, length-drop) (omega arith)
+
+-- `&s[a..a + n]`, the end as the code has it
+pub part-to : (s : Bytes) (a n : ℕ) → take (a + n - a) (drop a s) ≡ take n (drop a s)
+part-to s a n = let e : a + n - a ≡ n = omega arith in ap (λ (k : ℕ). take k (drop a s)) e

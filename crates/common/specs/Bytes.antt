@@ -1,9 +1,11 @@
 -- Byte strings as lists of numbers.
+use mathlib.Core.Bool.{Bool, true, false}
 use mathlib.Core.List.{List, [], _∷_, _++_}
 use Prim.Native.Nat.{ℕ, _-_}
 use Prim.Native.Char.{code}
 use Prim.Native.String.{String}
 use Prim.Native.String as S
+use lib.Dec.{eqb}
 use lib.ListN.{length, replicate}
 
 abbrev pub Bytes : Type 0
@@ -13,6 +15,13 @@ Bytes = List ℕ
 unfoldable pub codes : String → Bytes
 codes S.[] = []
 codes (S._∷_ c s) = code c ∷ codes s
+
+-- whether two byte strings are equal, byte for byte
+unfoldable pub same : Bytes → Bytes → Bool
+same [] [] = true
+same [] (d ∷ t) = false
+same (c ∷ s) [] = false
+same (c ∷ s) (d ∷ t) = elim (eqb c d) [ true ↦ same s t | false ↦ false ]
 
 -- a text and zeros behind it, n bytes in all
 abbrev pub padded : Bytes → ℕ → Bytes

@@ -1,8 +1,9 @@
-// Writing into a lent buffer.
+// Byte strings: stored into a lent buffer, and compared.
 ghost use mathlib.Core.List.{_++_};
 ghost use mathlib.Core.Path.{_≡_};
 ghost use Prim.Native.Nat.{_+_, _-_, _≤_};
 ghost use lib.ListN.{drop, length, replicate, take};
+ghost use Rattle.common.specs.Bytes.{same};
 ghost use Rattle.common.specs.Puts.{Puts};
 
 // A text of so many bytes is written, or the lent buffer is shorter than the need.
@@ -34,4 +35,21 @@ pub fn clear(out: &mut [u8], at: usize)
         out[i] = 0;
         i += 1;
     }
+}
+
+// Whether two byte strings are equal.
+pub fn same(s: &[u8], t: &[u8]) -> bool
+    ensures { λ r. ⌜ r ≡ same (now (s .entry)) (now (t .entry)) ⌝ }
+{
+    if s.len() != t.len() {
+        return false;
+    }
+    let mut i = 0;
+    while i < s.len() {
+        if s[i] != t[i] {
+            return false;
+        }
+        i += 1;
+    }
+    true
 }

@@ -1,0 +1,109 @@
+-- The header: its counts, and the verdict up to the lines.
+use mathlib.Core.Path.{_≡_, refl, sym, ap, _∙_}
+use mathlib.Core.Bool.{Bool, true, false, _&&_, not, cond, and-false}
+use Prim.Native.Nat.{ℕ, _+_, _*_, _≤_, _<_}
+use native.Mathlib.Nat.{mul-le-mul}
+use native.Mathlib.Omega.{arith}
+use lib.Dec.{leb, ltb, eqb}
+use lib.ListN.{length}
+use borrow.Author.Tests.{leb-true, ltb-true, le-leb, lt-leb, lt-ltb, le-ltb, eq-eqb, ne-eqb}
+use Rattle.common.specs.Bytes.{Bytes}
+use Rattle.common.proofs.Choice.{and-parts}
+use Rattle.sheet.specs.Layout.{headerLength, sizeOf, layoutOf}
+use Rattle.sheet.specs.Lines.{lineRight, quadFrom, shortLineOf}
+use Rattle.sheet.specs.Notes.{Sized}
+use Rattle.sheet.specs.Verdict.{countsRight, judged, verdictOf}
+use Rattle.sheet.specs.declared.line.Four
+use Rattle.sheet.specs.declared.line.Layout.{Layout}
+use Rattle.sheet.specs.declared.line.Quad.{Quad}
+use Rattle.sheet.specs.declared.verdict.Verdict.{Verdict}
+use Rattle.sheet.specs.declared.verdict.Verdict.the-variants.{Length, Format, Counts}
+use Rattle.sheet.proofs.AttributePass.{short-numbers, short-bad}
+
+-- ---- counts
+
+module _ (l : Layout) where
+  pub record Counted : Type 0 where
+    pub some-node : 1 ≤ l .nodes
+    pub nodes : l .nodes ≤ 20000
+    pub attributes : l .attributes ≤ 60000
+    pub pool : l .pool ≤ 4194304
+    pub root : l .root < l .nodes
+
+  pub counted : countsRight l ≡ true → Counted
+  unfolding countsRight
+  counted e =
+      let a = and-parts (leb 1 (l .nodes)) (leb (l .nodes) 20000 && (leb (l .attributes) 60000 && (leb (l .pool) 4194304 && ltb (l .root) (l .nodes)))) e in
+      let b = and-parts (leb (l .nodes) 20000) (leb (l .attributes) 60000 && (leb (l .pool) 4194304 && ltb (l .root) (l .nodes))) (a .1) in
+      let c = and-parts (leb (l .attributes) 60000) (leb (l .pool) 4194304 && ltb (l .root) (l .nodes)) (b .1) in
+      let d = and-parts (leb (l .pool) 4194304) (ltb (l .root) (l .nodes)) (c .1) in
+      record {
+        some-node = leb-true 1 (l .nodes) (a .0);
+        nodes = leb-true (l .nodes) 20000 (b .0);
+        attributes = leb-true (l .attributes) 60000 (c .0);
+        pool = leb-true (l .pool) 4194304 (d .0);
+        root = ltb-true (l .root) (l .nodes) (d .1);
+      }
+
+  pub no-node : l .nodes < 1 → false ≡ countsRight l
+  unfolding countsRight
+  no-node h = simp (lt-leb 1 (l .nodes) h)
+
+  module _ (a : 1 ≤ l .nodes) where
+    pub many-nodes : 20000 < l .nodes → false ≡ countsRight l
+    unfolding countsRight
+    many-nodes h = simp (le-leb 1 (l .nodes) a, lt-leb (l .nodes) 20000 h)
+
+    module _ (b : l .nodes ≤ 20000) where
+      pub many-attributes : 60000 < l .attributes → false ≡ countsRight l
+      unfolding countsRight
+      many-attributes h = simp (le-leb 1 (l .nodes) a, le-leb (l .nodes) 20000 b, lt-leb (l .attributes) 60000 h)
+
+      module _ (c : l .attributes ≤ 60000) where
+        pub large-pool : 4194304 < l .pool → false ≡ countsRight l
+        unfolding countsRight
+        large-pool h = simp (le-leb 1 (l .nodes) a, le-leb (l .nodes) 20000 b, le-leb (l .attributes) 60000 c, lt-leb (l .pool) 4194304 h)
+
+        pub root-test : l .pool ≤ 4194304 → ltb (l .root) (l .nodes) ≡ countsRight l
+        unfolding countsRight
+        root-test h = simp (le-leb 1 (l .nodes) a, le-leb (l .nodes) 20000 b, le-leb (l .attributes) 60000 c, le-leb (l .pool) 4194304 h)
+
+-- ---- products stay small
+
+pub lines-small : (w n : ℕ) → w ≤ 10 → n ≤ 60000 → (8 * w + 1) * n ≤ 4860000
+lines-small w n h k = let m : 8 * w + 1 ≤ 81 = omega arith in mul-le-mul m k
+
+pub short-lines-small : (w n : ℕ) → w ≤ 10 → n ≤ 60000 → (4 * w + 1) * n ≤ 2460000
+short-lines-small w n h k = let m : 4 * w + 1 ≤ 41 = omega arith in mul-le-mul m k
+
+-- ---- the verdict, up to the lines
+
+module _ (w : ℕ) (s : Bytes) where
+  pub verdict-short : length s < headerLength w → Length (headerLength w) ≡ verdictOf w s
+  unfolding verdictOf
+  verdict-short h = rw (lt-ltb (length s) (headerLength w) h)
+
+  module _ (h : headerLength w ≤ length s) where
+    pub verdict-header : shortLineOf w s 0 ≡ Four.the-variants.Bad → Format 0 ≡ verdictOf w s
+    unfolding verdictOf
+    verdict-header e = rw (le-ltb (length s) (headerLength w) h, short-bad w s 0 e)
+
+    module _ {q : Quad} (e : shortLineOf w s 0 ≡ Four.the-variants.Numbers q) where
+      after-header : verdictOf w s ≡ cond (not (countsRight (layoutOf w q))) Counts (cond (not (eqb (length s) (sizeOf (layoutOf w q)))) (Length (sizeOf (layoutOf w q))) (judged s (layoutOf w q)))
+      unfolding verdictOf
+      after-header = let x = short-numbers w s 0 e in rw (le-ltb (length s) (headerLength w) h, x .0, x .1)
+
+      pub verdict-counts : countsRight (layoutOf w q) ≡ false → Counts ≡ verdictOf w s
+      verdict-counts c = rw (after-header, c)
+
+      module _ (c : countsRight (layoutOf w q) ≡ true) where
+        pub verdict-length : (length s ≡ sizeOf (layoutOf w q) → ⊥) → Length (sizeOf (layoutOf w q)) ≡ verdictOf w s
+        verdict-length n = rw (after-header, c, ne-eqb (length s) (sizeOf (layoutOf w q)) n)
+
+        pub verdict-judged : length s ≡ sizeOf (layoutOf w q) → judged s (layoutOf w q) ≡ verdictOf w s
+        verdict-judged n = rw (after-header, c, eq-eqb (length s) (sizeOf (layoutOf w q)) n)
+
+        pub header-sized : w ≤ 10 → length s ≡ sizeOf (layoutOf w q) → Sized s (layoutOf w q)
+        header-sized b n =
+            let k = counted (layoutOf w q) c in
+            record { width = b; some-node = k .some-node; nodes = k .nodes; attributes = k .attributes; pool = k .pool; root = k .root; size = n }

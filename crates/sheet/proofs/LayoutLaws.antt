@@ -1,0 +1,55 @@
+-- Lines lie in the sheet; the column of depths; numbers are small.
+use mathlib.Core.Path.{_≡_, refl, sym, ap, _∙_}
+use mathlib.Core.Bool.{Bool, true, false}
+use mathlib.Core.List.{List, [], _∷_}
+use Prim.Native.Nat.{ℕ, zero, suc, _+_, _-_, _*_, _^_, _≤_, _<_}
+use native.Mathlib.Nat.{mul-le-mul-left, pow-le-pow-right}
+use native.Mathlib.Omega.{arith}
+use lib.Dec.{lit<}
+use lib.ListN.{length, getD, take, drop, length-take}
+use Rattle.common.specs.Bytes.{Bytes}
+use Rattle.sheet.specs.Columns.{fieldOf}
+use Rattle.sheet.specs.Layout.{nodeLength, attributeLength, nodeStart, attributeStart, poolStart, sizeOf, rowAt, depthsFrom, depths}
+use Rattle.sheet.specs.Lines.{fieldAt, numberIn, numberAt}
+use Rattle.sheet.specs.Notes.{Sized}
+use Rattle.sheet.specs.declared.field.Field.{Field}
+use Rattle.sheet.specs.declared.field.Field.the-variants.{Number, Bad}
+use Rattle.sheet.specs.declared.line.Layout.{Layout}
+use Rattle.sheet.proofs.ColumnsLaws.{field-below}
+
+module _ {s : Bytes} {l : Layout} (sized : Sized s l) where
+  pub node-fits : (i : ℕ) → i < l .nodes → nodeStart l i + nodeLength (l .width) ≤ length s
+  node-fits i h = omega (arith, sized .size, mul-le-mul-left (8 * l .width + 1) h)
+
+  pub attribute-fits : (j : ℕ) → j < l .attributes → attributeStart l j + attributeLength (l .width) ≤ length s
+  attribute-fits j h = omega (arith, sized .size, mul-le-mul-left (4 * l .width + 1) h)
+
+  pub pool-start : length s - l .pool ≡ poolStart l
+  pool-start = omega (arith, sized .size)
+
+-- a number in w columns is below 10 ^ w
+small-in : (f : Field) (k : ℕ) → 0 < k → ((n : ℕ) → f ≡ Number n → n < k) → numberIn f < k
+small-in (Number n) k p h = h n refl
+small-in Bad k p h = p
+
+pub number-below : (w : ℕ) (s : Bytes) (at : ℕ) → w ≤ 10 → numberAt w s at < 10 ^ 10
+unfolding fieldAt
+number-below w s at h =
+    small-in (fieldOf (take w (drop at s))) (10 ^ 10) (lit< tt) (field-below (take w (drop at s)) 10 (simp length-take (omega arith)))
+
+-- ---- the column of depths
+
+module _ (s : Bytes) (l : Layout) where
+  pub depths-from-length : (i n : ℕ) → length (depthsFrom s l i n) ≡ n
+  unfolding depthsFrom
+  depths-from-length i zero = refl
+  depths-from-length i (suc n) = ap suc (depths-from-length (suc i) n)
+
+  depths-from-at : (i n j : ℕ) → j < n → getD (depthsFrom s l i n) j 0 ≡ rowAt s l (i + j) .depth
+  unfolding depthsFrom
+  depths-from-at i zero j h = absurd (omega arith)
+  depths-from-at i (suc n) zero h = let e : i ≡ i + 0 = omega arith in ap (λ (k : ℕ). rowAt s l k .depth) e
+  depths-from-at i (suc n) (suc j) h = let e : suc i + j ≡ i + suc j = omega arith in depths-from-at (suc i) n j (omega arith) ∙ ap (λ (k : ℕ). rowAt s l k .depth) e
+
+  pub depths-at : (j : ℕ) → j < l .nodes → getD (depths s l) j 0 ≡ rowAt s l j .depth
+  depths-at j h = let e : 0 + j ≡ j = omega arith in depths-from-at 0 (l .nodes) j h ∙ ap (λ (k : ℕ). rowAt s l k .depth) e

@@ -1,0 +1,11 @@
+pub mod AttributePass
+pub mod ColumnsLaws
+pub mod FirstWrong
+pub mod Header
+pub mod Judging
+pub mod LayoutLaws
+pub mod LineLaws
+pub mod NodePass
+pub mod Parents
+pub mod ReadingColumns
+pub mod RowTests

@@ -1,0 +1,110 @@
+-- `notes::read_attributes` meets its contract.
+use Prim.Native.Nat.{_-_}
+use mathlib.Core.Path.{refl, sym, _∙_}
+use native.Mathlib.Omega.{arith}
+use borrow.Author.Needs.{needs}
+use Rattle.sheet.proofs.LayoutLaws.{attribute-fits, pool-start}
+use Rattle.sheet.proofs.AttributePass.{Attributes, attributes-start, attributes-bad, attributes-more, attributes-end}
+use Rattle.sheet.proofs.notes.read_attributes.Statement.{statement}
+use Rattle.sheet.proofs.notes.read_attributes.Tie as tie
+
+abbrev Inv-loop : tie.InvT-loop
+Inv-loop s l width attributes start step n₀ at₀ j₀ n at j = Attributes s l n at j
+
+abbrev μ-loop : tie.MeasureT-loop
+μ-loop s l width attributes start step n₀ at₀ j₀ n at j = attributes - j
+
+sub-start : tie.Need-sub-start Inv-loop μ-loop
+sub-start c = omega (arith, c .before .before .pre .size)
+
+mul-step : tie.Need-mul-step Inv-loop μ-loop
+mul-step c = omega (arith, c .before .before .pre .width)
+
+add-step : tie.Need-add-step Inv-loop μ-loop
+add-step c = omega (arith, c .before .before .pre .width)
+
+mul-at : tie.Need-mul-at Inv-loop μ-loop
+mul-at c = omega (arith, c .before .before .pre .width)
+
+add-at : tie.Need-add-at Inv-loop μ-loop
+add-at c = omega (arith, c .before .before .pre .width)
+
+mul-at-2 : tie.Need-mul-at-2 Inv-loop μ-loop
+mul-at-2 c = omega (arith, c .before .before .pre .width)
+
+add-at-2 : tie.Need-add-at-2 Inv-loop μ-loop
+add-at-2 c = omega (arith, c .before .before .pre .width)
+
+mul-at-3 : tie.Need-mul-at-3 Inv-loop μ-loop
+mul-at-3 c = omega (arith, c .before .before .before .pre .size)
+
+add-at-3 : tie.Need-add-at-3 Inv-loop μ-loop
+add-at-3 c = omega (arith, c .before .before .before .pre .size)
+
+loop-holds : tie.Need-loop-holds Inv-loop μ-loop
+loop-holds c = attributes-start _ _
+
+read-short-line-requires : tie.Need-read-short-line-requires Inv-loop μ-loop
+read-short-line-requires c κs =
+    let l = c .before .loop in
+    (omega (arith, l .inv .place, attribute-fits (c .before .before .before .before .before .pre) (l .j) (c .loop-test .taken)), omega (arith, c .before .before .before .before .before .pre .width))
+
+enum-told : tie.Need-enum-told Inv-loop μ-loop
+enum-told c = search needs
+
+returns : tie.Need-returns Inv-loop μ-loop
+returns c =
+    let l = c .before .before .before .before .loop in
+    attributes-bad _ _ (l .inv) (c .before .before .before .loop-test .taken) (sym (c .before .before .read-short-line .ensures) ∙ c .enum-told .given .1)
+
+enum-known-q : tie.Need-enum-known-q Inv-loop μ-loop
+enum-known-q c = search needs
+
+note-attribute-requires : tie.Need-note-attribute-requires Inv-loop μ-loop
+note-attribute-requires c κs = (pool-start (c .before .before .before .before .before .before .before .before .before .pre), c .before .before .before .before .before .before .before .before .before .pre)
+
+add-at-4 : tie.Need-add-at-4 Inv-loop μ-loop
+add-at-4 c =
+    let l = c .before .before .before .before .before .before .loop in
+    omega (arith, l .inv .place, attribute-fits (c .before .before .before .before .before .before .before .before .before .before .pre) (l .j) (c .before .before .before .before .before .loop-test .taken))
+
+add-j : tie.Need-add-j Inv-loop μ-loop
+add-j c = omega (arith, c .before .before .before .before .before .loop-test .taken, c .before .before .before .before .before .before .before .before .before .before .pre .attributes)
+
+loop-less : tie.Need-loop-less Inv-loop μ-loop
+loop-less c = omega (arith, c .before .before .before .before .before .loop-test .taken)
+
+loop-again : tie.Need-loop-again Inv-loop μ-loop
+loop-again c =
+    let l = c .before .before .before .before .before .before .loop in
+    attributes-more _ _ (l .inv) (c .before .before .before .before .before .loop-test .taken) (sym (c .before .before .before .before .read-short-line .ensures) ∙ c .before .before .q .given .1) (c .note-attribute .ensures) refl
+
+returns-2 : tie.Need-returns-2 Inv-loop μ-loop
+returns-2 c = attributes-end _ _ (c .before .loop .inv) (c .loop-test .left)
+
+pub read-attributes-spec : {M : Type 1} → statement M
+read-attributes-spec =
+    tie.close
+    (tie.spec
+    Inv-loop
+    μ-loop
+    sub-start
+    mul-step
+    add-step
+    mul-at
+    add-at
+    mul-at-2
+    add-at-2
+    mul-at-3
+    add-at-3
+    loop-holds
+    read-short-line-requires
+    enum-told
+    returns
+    enum-known-q
+    note-attribute-requires
+    add-at-4
+    add-j
+    loop-less
+    loop-again
+    returns-2)

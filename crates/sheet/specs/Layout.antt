@@ -1,0 +1,56 @@
+-- Where the lines of a sheet stand (document 01, "The sheet"): header, node lines, attribute lines, pool.
+use mathlib.Core.List.{List, [], _∷_}
+use Prim.Native.Nat.{ℕ, zero, suc, _+_, _*_}
+use lib.ListN.{take, drop}
+use Rattle.common.specs.Bytes.{Bytes}
+use Rattle.sheet.specs.Lines.{quadFrom, rowFrom, attributeFrom}
+use Rattle.sheet.specs.declared.line.Attribute.{Attribute}
+use Rattle.sheet.specs.declared.line.Layout.{Layout}
+use Rattle.sheet.specs.declared.line.Quad.{Quad}
+use Rattle.sheet.specs.declared.line.Row.{Row}
+
+-- "Header, 33 bytes", "node lines, 65 bytes", "attribute lines, 33 bytes"
+abbrev pub headerLength : ℕ → ℕ
+headerLength w = 4 * w + 1
+
+abbrev pub nodeLength : ℕ → ℕ
+nodeLength w = 8 * w + 1
+
+abbrev pub attributeLength : ℕ → ℕ
+attributeLength w = 4 * w + 1
+
+abbrev pub nodeStart : Layout → ℕ → ℕ
+nodeStart l i = headerLength (l .width) + nodeLength (l .width) * i
+
+abbrev pub attributeStart : Layout → ℕ → ℕ
+attributeStart l j = nodeStart l (l .nodes) + attributeLength (l .width) * j
+
+abbrev pub poolStart : Layout → ℕ
+poolStart l = attributeStart l (l .attributes)
+
+-- "33 + 65·N + 33·A + P"
+abbrev pub sizeOf : Layout → ℕ
+sizeOf l = poolStart l + l .pool
+
+-- "nodes N, attributes A, pool bytes P, chosen root row"
+abbrev pub layoutOf : ℕ → Quad → Layout
+layoutOf w q = record { width = w; nodes = q .first; attributes = q .second; pool = q .third; root = q .fourth }
+
+module _ (s : Bytes) (l : Layout) where
+  unfoldable pub rowAt : ℕ → Row
+  rowAt i = rowFrom (l .width) s (nodeStart l i)
+
+  unfoldable pub attributeAt : ℕ → Attribute
+  attributeAt j = attributeFrom (l .width) s (attributeStart l j)
+
+  -- a range of the pool: "At" counts from its start
+  abbrev pub range : ℕ → ℕ → Bytes
+  range at len = take len (drop (poolStart l + at) s)
+
+  -- the column of depths of n rows from row i on
+  unfoldable pub depthsFrom : ℕ → ℕ → List ℕ
+  depthsFrom i zero = []
+  depthsFrom i (suc n) = rowAt i .depth ∷ depthsFrom (suc i) n
+
+  abbrev pub depths : List ℕ
+  depths = depthsFrom 0 (l .nodes)

@@ -1,0 +1,7 @@
+pub mod Column
+pub mod Columns
+pub mod Layout
+pub mod Lines
+pub mod Notes
+pub mod Room
+pub mod Verdict

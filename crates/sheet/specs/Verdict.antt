@@ -1,0 +1,151 @@
+-- What is wrong with a sheet (document 01, "Who can cause which number", 11 to 17), stage by stage in its order.
+use mathlib.Core.Bool.{Bool, true, false, _&&_, _||_, not, cond}
+use mathlib.Core.Option.{Option, none, some}
+use Prim.Native.Nat.{ℕ, zero, suc, _+_}
+use lib.Dec.{leb, ltb, eqb}
+use lib.ListN.{length}
+use Rattle.common.specs.Answer.{Answer, refused, written}
+use Rattle.common.specs.Bytes.{Bytes, codes, same}
+use Rattle.utf8.specs.Valid.{valid}
+use Rattle.sheet.specs.Column.{parentOf}
+use Rattle.sheet.specs.Layout.{headerLength, nodeStart, attributeStart, sizeOf, layoutOf, rowAt, attributeAt, range, depths}
+use Rattle.sheet.specs.Lines.{lineRight, quadFrom}
+use Rattle.sheet.specs.declared.line.Attribute.{Attribute}
+use Rattle.sheet.specs.declared.line.Layout.{Layout}
+use Rattle.sheet.specs.declared.line.Row.{Row}
+use Rattle.sheet.specs.declared.verdict.Verdict.{Verdict}
+use Rattle.sheet.specs.declared.verdict.Verdict.the-variants.{Sheet, Length, Format, Counts, Kind, Tree, Range, Encoding}
+
+-- the first of n lines from line i on that is not right
+abbrev pub firstWrong : (ℕ → Bool) → ℕ → ℕ → Option ℕ
+firstWrong right i zero = none
+firstWrong right i (suc n) = elim (right i) [ false ↦ some i | true ↦ firstWrong right (suc i) n ]
+
+-- a stage over lines: refused at the first line that is not right
+abbrev pub stage : Option ℕ → (ℕ → Verdict) → Verdict → Verdict
+stage (some i) refuse next = refuse i
+stage none refuse next = next
+
+-- "N 1 to 20,000; A to 60,000; P to 4,194,304", and "root not below N"
+unfoldable pub countsRight : Layout → Bool
+countsRight l = leb 1 (l .nodes) && (leb (l .nodes) 20000 && (leb (l .attributes) 60000 && (leb (l .pool) 4194304 && ltb (l .root) (l .nodes))))
+
+-- "kind or skip not listed; a non-element with a name or attributes (length or count not 0); an element with a value length not 0"
+unfoldable pub kindRight : Row → Bool
+kindRight r =
+    (eqb (r .kind) 1 || (eqb (r .kind) 3 || eqb (r .kind) 8))
+    && (leb (r .skip) 1 && cond (eqb (r .kind) 1) (eqb (r .«value_len») 0) (eqb (r .«name_len») 0 && eqb (r .attributes) 0))
+
+-- "at + length exceeds P"
+abbrev pub inside : Layout → ℕ → ℕ → Bool
+inside l at len = leb (at + len) (l .pool)
+
+module _ (s : Bytes) (l : Layout) where
+  -- "a field or line end is not as above"
+  unfoldable pub nodeFormat : ℕ → Bool
+  nodeFormat i = lineRight (l .width) s (nodeStart l i) 8
+
+  unfoldable pub attributeFormat : ℕ → Bool
+  attributeFormat j = lineRight (l .width) s (attributeStart l j) 4
+
+  unfoldable pub nodeKind : ℕ → Bool
+  nodeKind i = kindRight (rowAt s l i)
+
+  -- "an element named body at depth 0 (a name range past the pool is not that name)"
+  unfoldable pub bodyRight : Row → Bool
+  bodyRight r =
+      eqb (r .kind) 1
+      && (eqb (r .depth) 0 && (inside l (r .«name_at») (r .«name_len») && same (range s l (r .«name_at») (r .«name_len»)) (codes "body")))
+
+  abbrev pub isElement : Option ℕ → Bool
+  isElement none = false
+  isElement (some j) = eqb (rowAt s l j .kind) 1
+
+  -- "a later depth is 0, above 500 or more than one above the row before; a parent is not an element"
+  unfoldable pub nodeTree : ℕ → Bool
+  nodeTree zero = bodyRight (rowAt s l 0)
+  nodeTree (suc i) =
+      leb 1 (rowAt s l (suc i) .depth)
+      && (leb (rowAt s l (suc i) .depth) 500
+      && (leb (rowAt s l (suc i) .depth) (suc (rowAt s l i .depth))
+      && isElement (parentOf (depths s l) (suc i))))
+
+  unfoldable pub nodeRange : ℕ → Bool
+  nodeRange i = let r = rowAt s l i in inside l (r .«name_at») (r .«name_len») && inside l (r .«value_at») (r .«value_len»)
+
+  unfoldable pub attributeRange : ℕ → Bool
+  attributeRange j = let a = attributeAt s l j in inside l (a .«name_at») (a .«name_len») && inside l (a .«value_at») (a .«value_len»)
+
+  -- a range of the pool that is UTF-8
+  unfoldable pub textRight : ℕ → ℕ → Bool
+  textRight at len = inside l at len && valid (range s l at len)
+
+  unfoldable pub nodeText : ℕ → Bool
+  nodeText i = let r = rowAt s l i in textRight (r .«name_at») (r .«name_len») && textRight (r .«value_at») (r .«value_len»)
+
+  unfoldable pub attributeText : ℕ → Bool
+  attributeText j = let a = attributeAt s l j in textRight (a .«name_at») (a .«name_len») && textRight (a .«value_at») (a .«value_len»)
+
+  -- the attribute counts of n rows from row i on
+  unfoldable pub countsFrom : ℕ → ℕ → ℕ
+  countsFrom i zero = 0
+  countsFrom i (suc n) = rowAt s l i .attributes + countsFrom (suc i) n
+
+  -- what the node lines and the attribute lines have first at fault
+  abbrev pub nodes : (ℕ → Bool) → Option ℕ
+  nodes right = firstWrong right 0 (l .nodes)
+
+  abbrev pub attributes : (ℕ → Bool) → Option ℕ
+  attributes right = firstWrong right 0 (l .attributes)
+
+  -- the line of a node, and of an attribute: the header is line 0
+  abbrev pub nodeLine : ℕ → ℕ
+  nodeLine i = i + 1
+
+  abbrev pub attributeLine : ℕ → ℕ
+  attributeLine j = l .nodes + j + 1
+
+  -- 12 to 17, over a sheet whose header is right and whose length is what the header says
+  unfoldable pub judged : Verdict
+  judged =
+      -- 12
+      stage (nodes nodeFormat) (λ i. Format (nodeLine i))
+      (stage (attributes attributeFormat) (λ j. Format (attributeLine j))
+      -- 15
+      (stage (nodes nodeKind) (λ i. Kind (nodeLine i))
+      -- 14, "root not an element (line 0, last)"
+      (stage (nodes nodeTree) (λ i. Tree (nodeLine i))
+      (cond (not (eqb (rowAt s l (l .root) .kind) 1)) (Tree 0)
+      -- 16, "then attribute counts not summing to A (line 0)"
+      (stage (nodes nodeRange) (λ i. Range (nodeLine i))
+      (stage (attributes attributeRange) (λ j. Range (attributeLine j))
+      (cond (not (eqb (countsFrom 0 (l .nodes)) (l .attributes))) (Range 0)
+      -- 17
+      (stage (nodes nodeText) (λ i. Encoding (nodeLine i))
+      (stage (attributes attributeText) (λ j. Encoding (attributeLine j))
+      (Sheet l))))))))))
+
+-- the whole verdict on a byte string, for numbers of width w
+unfoldable pub verdictOf : ℕ → Bytes → Verdict
+verdictOf w s =
+    let l = layoutOf w (quadFrom w s 0) in
+    -- 11, "shorter than 33 bytes (second number 33)"
+    cond (ltb (length s) (headerLength w)) (Length (headerLength w))
+    -- "Header fields or its line end: 12"
+    (cond (not (lineRight w s 0 4)) (Format 0)
+    -- "Counts out of range, or root not below N: 13"
+    (cond (not (countsRight l)) Counts
+    -- "Then 11 again: length is not 33 + 65·N + 33·A + P (second number: that sum)"
+    (cond (not (eqb (length s) (sizeOf l))) (Length (sizeOf l))
+    (judged s l))))
+
+-- the numbers of each case
+abbrev pub numbers : Verdict → Answer
+numbers (Sheet l) = written 0
+numbers (Length n) = refused 11 n
+numbers (Format line) = refused 12 line
+numbers Counts = refused 13 0
+numbers (Tree line) = refused 14 line
+numbers (Kind line) = refused 15 line
+numbers (Range line) = refused 16 line
+numbers (Encoding line) = refused 17 line
