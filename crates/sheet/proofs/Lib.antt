@@ -1,3 +1,4 @@
+pub mod Acceptance
 pub mod AttributePass
 pub mod ColumnsLaws
 pub mod FirstWrong

@@ -1,3 +1,4 @@
+pub mod Accepted
 pub mod Column
 pub mod Columns
 pub mod Layout

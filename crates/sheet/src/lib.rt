@@ -1,6 +1,7 @@
-// The tree sheet: numbers in columns, lines, and what is wrong with a sheet.
+// The tree sheet: numbers in columns, lines, what is wrong with a sheet, and the readers of an accepted one.
 pub mod field;
 pub mod line;
 pub mod notes;
+pub mod read;
 pub mod tests;
 pub mod verdict;

@@ -92,7 +92,7 @@ pub fn read_short_line(s: &[u8], at: usize, width: usize) -> Four
     read_four(s, at, width)
 }
 
-fn row_of(x: Quad, y: Quad) -> Row
+pub fn row_of(x: Quad, y: Quad) -> Row
     ensures { λ r. ⌜ r ≡ rowOf x y ⌝ }
 {
     Row {

@@ -1,0 +1,234 @@
+-- What the verdict accepts is a sheet in document 01's sense.
+use mathlib.Core.Path.{_≡_, refl, sym, ap, _∙_, subst}
+use mathlib.Core.Bool.{Bool, true, false, _&&_, _||_, not, cond}
+use mathlib.Core.Logic.{_⊎_, inl, inr}
+use mathlib.Core.Option.{Option, none, some}
+use Prim.Native.Nat.{ℕ, zero, suc, _+_, _*_, _≤_, _<_}
+use native.Mathlib.Nat.{mul-le-mul-right, suc-mul}
+use native.Mathlib.Omega.{arith}
+use lib.Dec.{leb, ltb, eqb}
+use lib.ListN.{length, getD, take, drop}
+use borrow.Author.Tests.{leb-true, eqb-true, eqb-false, eq-eqb, ne-eqb, not-false, ltb-false}
+use Rattle.common.specs.Bytes.{Bytes, codes, same}
+use Rattle.common.proofs.Choice.{by-test, absurd-test, and-parts}
+use Rattle.common.proofs.Equality.{same-true}
+use Rattle.common.proofs.Parts.{part-length}
+use Rattle.utf8.specs.Valid.{valid}
+use Rattle.sheet.specs.Accepted.{Line, KindOf, Text, Later, Accepted}
+use Rattle.sheet.specs.Column.{parentOf}
+use Rattle.sheet.specs.Columns.{columns, fieldOf}
+use Rattle.sheet.specs.Layout.{headerLength, sizeOf, layoutOf, nodeLength, attributeLength, nodeStart, attributeStart, rowAt, attributeAt, range, depths}
+use Rattle.sheet.specs.Lines.{isNumber, fieldAt, numbersRight, after, lineRight, quadFrom}
+use Rattle.sheet.specs.Notes.{Sized}
+use Rattle.sheet.specs.Verdict.{firstWrong, stage, countsRight, kindRight, inside, bodyRight, isElement, textRight, nodes, attributes, nodeFormat, attributeFormat, nodeKind, nodeTree, nodeRange, attributeRange, nodeText, attributeText, countsFrom, judged, verdictOf}
+use Rattle.sheet.specs.declared.field.Field.{Field}
+use Rattle.sheet.specs.declared.field.Field.the-variants.{Number, Bad}
+use Rattle.sheet.specs.declared.line.Layout.{Layout}
+use Rattle.sheet.specs.declared.line.Row.{Row}
+use Rattle.sheet.specs.declared.verdict.Verdict.{Verdict}
+use Rattle.sheet.specs.declared.verdict.Verdict.the-variants.{Sheet, Length, Format, Counts, Kind, Tree, Range, Encoding}
+use Rattle.sheet.proofs.ColumnsLaws.{reads-back}
+use Rattle.sheet.proofs.FirstWrong.{all-right}
+use Rattle.sheet.proofs.Header.{counted}
+use Rattle.sheet.proofs.LayoutLaws.{node-fits, attribute-fits}
+use Rattle.sheet.proofs.Parents.{later}
+
+-- ---- each stage's test says its sentence
+
+number-of : (f : Field) → isNumber f ≡ true → (n : ℕ) × (f ≡ Number n)
+number-of (Number n) e = (n, refl)
+number-of Bad e = absurd-test e refl
+
+after-is : (w at k : ℕ) → after w at k ≡ at + k * w
+after-is w at zero = omega arith
+after-is w at (suc k) = after-is w (at + w) k ∙ omega arith
+
+module _ (w : ℕ) (s : Bytes) where
+  numbers : (at k : ℕ) → numbersRight w s at k ≡ true → (i : ℕ) → i < k → isNumber (fieldAt w s (at + i * w)) ≡ true
+  numbers at zero e i h = absurd (omega arith)
+  numbers at (suc k) e zero h = let z : at + 0 * w ≡ at = omega arith in ap (λ (p : ℕ). isNumber (fieldAt w s p)) z ∙ and-parts (isNumber (fieldAt w s at)) (numbersRight w s (at + w) k) e .0
+  numbers at (suc k) e (suc i) h =
+      let z : at + suc i * w ≡ at + w + i * w = omega arith in
+      ap (λ (p : ℕ). isNumber (fieldAt w s p)) z ∙ numbers (at + w) k (and-parts (isNumber (fieldAt w s at)) (numbersRight w s (at + w) k) e .1) i (omega arith)
+
+  line : (at k : ℕ) → at + k * w ≤ length s → lineRight w s at k ≡ true → Line w s at k
+  unfolding fieldAt
+  line at k fits e =
+      let p = and-parts (eqb (getD s (after w at k) 0) 10) (numbersRight w s at k) e in
+      record {
+        number = λ i h.
+            let f = number-of (fieldAt w s (at + i * w)) (numbers at k (p .1) i h) in
+            let c = reads-back (take w (drop (at + i * w) s)) (f .0) .0 (f .1) in
+            (f .0, c .0 ∙ ap (λ (v : ℕ). columns v (f .0)) (part-length s (at + i * w) w (omega (arith, mul-le-mul-right w h, suc-mul i w))));
+        end = ap (λ (p : ℕ). getD s p 0) (sym (after-is w at k)) ∙ eqb-true (getD s (after w at k) 0) 10 (p .0);
+      }
+
+-- the listed kinds
+listed-kind : (k : ℕ) → (eqb k 1 || (eqb k 3 || eqb k 8)) ≡ true → (k ≡ 1) ⊎ ((k ≡ 3) ⊎ (k ≡ 8))
+listed-kind k e =
+    by-test (eqb k 1) (λ p. inl (eqb-true k 1 p))
+    (λ p. by-test (eqb k 3) (λ q. inr (inl (eqb-true k 3 q))) (λ q. inr (inr (eqb-true k 8 (rw (p, q) at e)))))
+
+kind-of : (r : Row) → kindRight r ≡ true → KindOf r
+unfolding kindRight
+kind-of r e =
+    let rest = cond (eqb (r .kind) 1) (eqb (r .«value_len») 0) (eqb (r .«name_len») 0 && eqb (r .attributes) 0) in
+    let p = and-parts (eqb (r .kind) 1 || (eqb (r .kind) 3 || eqb (r .kind) 8)) (leb (r .skip) 1 && rest) e in
+    let q = and-parts (leb (r .skip) 1) rest (p .1) in
+    record {
+      listed = listed-kind (r .kind) (p .0);
+      mark = leb-true (r .skip) 1 (q .0);
+      element = λ h. eqb-true (r .«value_len») 0 (rw (eq-eqb (r .kind) 1 h) at (q .1));
+      other = λ h. let z = and-parts (eqb (r .«name_len») 0) (eqb (r .attributes) 0) (rw (ne-eqb (r .kind) 1 h) at (q .1)) in (eqb-true (r .«name_len») 0 (z .0), eqb-true (r .attributes) 0 (z .1));
+    }
+
+module _ (s : Bytes) (l : Layout) where
+  text-of : (at len : ℕ) → textRight s l at len ≡ true → Text s l at len
+  unfolding textRight
+  text-of at len e = let p = and-parts (inside l at len) (valid (range s l at len)) e in record { inside = leb-true (at + len) (l .pool) (p .0); utf8 = p .1 }
+
+  record Body : Type 0 where
+    depth : rowAt s l 0 .depth ≡ 0
+    element : rowAt s l 0 .kind ≡ 1
+    name : range s l (rowAt s l 0 .«name_at») (rowAt s l 0 .«name_len») ≡ codes "body"
+
+  body-of : nodeTree s l 0 ≡ true → Body
+  unfolding nodeTree bodyRight
+  body-of e =
+      let r = rowAt s l 0 in
+      let there = inside l (r .«name_at») (r .«name_len») in
+      let named = same (range s l (r .«name_at») (r .«name_len»)) (codes "body") in
+      let p = and-parts (eqb (r .kind) 1) (eqb (r .depth) 0 && (there && named)) e in
+      let q = and-parts (eqb (r .depth) 0) (there && named) (p .1) in
+      let n = and-parts there named (q .1) in
+      record { depth = eqb-true (r .depth) 0 (q .0); element = eqb-true (r .kind) 1 (p .0); name = same-true _ _ (n .1) }
+
+  parent-of : (o : Option ℕ) → isElement s l o ≡ true → (j : ℕ) × (o ≡ some j) × (rowAt s l j .kind ≡ 1)
+  parent-of none e = absurd-test e refl
+  parent-of (some j) e = (j, refl, eqb-true (rowAt s l j .kind) 1 e)
+
+  later-of : (i : ℕ) → nodeTree s l (suc i) ≡ true → Later s l i
+  later-of i e =
+      let t = later s l i e in
+      record { some-depth = t .some-depth; most-depth = t .most-depth; no-jump = t .no-jump; parent = parent-of (parentOf (depths s l) (suc i)) (t .parent) }
+
+-- ---- a sheet is accepted where no stage refuses it
+
+abbrev isSheet : Verdict → Bool
+isSheet (Sheet l) = true
+isSheet (Length n) = false
+isSheet (Format n) = false
+isSheet Counts = false
+isSheet (Kind n) = false
+isSheet (Tree n) = false
+isSheet (Range n) = false
+isSheet (Encoding n) = false
+
+module _ {l : Layout} where
+  cond-sheet : (b : Bool) (refuse next : Verdict) → isSheet refuse ≡ false → cond (not b) refuse next ≡ Sheet l → (b ≡ true) × (next ≡ Sheet l)
+  cond-sheet true refuse next h e = (refl, e)
+  cond-sheet false refuse next h e = absurd-test (ap isSheet e) h
+
+  stage-sheet : (o : Option ℕ) (refuse : ℕ → Verdict) (next : Verdict) → ((i : ℕ) → isSheet (refuse i) ≡ false) → stage o refuse next ≡ Sheet l → (o ≡ none) × (next ≡ Sheet l)
+  stage-sheet none refuse next h e = (refl, e)
+  stage-sheet (some i) refuse next h e = absurd-test (ap isSheet e) (h i)
+
+module _ (s : Bytes) (l : Layout) where
+  -- the verdict from each stage on
+  abbrev from-attribute-texts : Verdict
+  from-attribute-texts = stage (attributes s l (attributeText s l)) (λ j. Encoding (l .nodes + j + 1)) (Sheet l)
+
+  abbrev from-node-texts : Verdict
+  from-node-texts = stage (nodes s l (nodeText s l)) (λ i. Encoding (i + 1)) from-attribute-texts
+
+  abbrev from-counts : Verdict
+  from-counts = cond (not (eqb (countsFrom s l 0 (l .nodes)) (l .attributes))) (Range 0) from-node-texts
+
+  abbrev from-attribute-ranges : Verdict
+  from-attribute-ranges = stage (attributes s l (attributeRange s l)) (λ j. Range (l .nodes + j + 1)) from-counts
+
+  abbrev from-node-ranges : Verdict
+  from-node-ranges = stage (nodes s l (nodeRange s l)) (λ i. Range (i + 1)) from-attribute-ranges
+
+  abbrev from-root : Verdict
+  from-root = cond (not (eqb (rowAt s l (l .root) .kind) 1)) (Tree 0) from-node-ranges
+
+  abbrev from-tree : Verdict
+  from-tree = stage (nodes s l (nodeTree s l)) (λ i. Tree (i + 1)) from-root
+
+  abbrev from-kinds : Verdict
+  from-kinds = stage (nodes s l (nodeKind s l)) (λ i. Kind (i + 1)) from-tree
+
+  abbrev from-attribute-formats : Verdict
+  from-attribute-formats = stage (attributes s l (attributeFormat s l)) (λ j. Format (l .nodes + j + 1)) from-kinds
+
+  module _ (sized : Sized s l) {accepted : Layout} (e : judged s l ≡ Sheet accepted) where
+    sheet-is : {a b : Layout} → Sheet a ≡ Sheet b → a ≡ b
+    sheet-is h = cc
+
+    pub judged-accepts : (l ≡ accepted) × Accepted s l
+    unfolding judged nodeFormat attributeFormat nodeKind nodeText attributeText
+    judged-accepts =
+        let node-formats = stage-sheet (nodes s l (nodeFormat s l)) (λ i. Format (i + 1)) from-attribute-formats (λ i. refl) e in
+        let attribute-formats = stage-sheet (attributes s l (attributeFormat s l)) (λ j. Format (l .nodes + j + 1)) from-kinds (λ i. refl) (node-formats .1) in
+        let kinds = stage-sheet (nodes s l (nodeKind s l)) (λ i. Kind (i + 1)) from-tree (λ i. refl) (attribute-formats .1) in
+        let tree = stage-sheet (nodes s l (nodeTree s l)) (λ i. Tree (i + 1)) from-root (λ i. refl) (kinds .1) in
+        let root = cond-sheet (eqb (rowAt s l (l .root) .kind) 1) (Tree 0) from-node-ranges refl (tree .1) in
+        let node-ranges = stage-sheet (nodes s l (nodeRange s l)) (λ i. Range (i + 1)) from-attribute-ranges (λ i. refl) (root .1) in
+        let attribute-ranges = stage-sheet (attributes s l (attributeRange s l)) (λ j. Range (l .nodes + j + 1)) from-counts (λ i. refl) (node-ranges .1) in
+        let counts = cond-sheet (eqb (countsFrom s l 0 (l .nodes)) (l .attributes)) (Range 0) from-node-texts refl (attribute-ranges .1) in
+        let node-texts = stage-sheet (nodes s l (nodeText s l)) (λ i. Encoding (i + 1)) from-attribute-texts (λ i. refl) (counts .1) in
+        let attribute-texts = stage-sheet (attributes s l (attributeText s l)) (λ j. Encoding (l .nodes + j + 1)) (Sheet l) (λ i. refl) (node-texts .1) in
+        let body = body-of s l (all-right (nodeTree s l) (l .nodes) (tree .0) 0 (sized .some-node)) in (
+          sheet-is (attribute-texts .1),
+          record {
+            sized = sized;
+            node-line = λ i h. line (l .width) s (nodeStart l i) 8 (omega (arith, node-fits sized i h)) (all-right (nodeFormat s l) (l .nodes) (node-formats .0) i h);
+            attribute-line = λ j h. line (l .width) s (attributeStart l j) 4 (omega (arith, attribute-fits sized j h)) (all-right (attributeFormat s l) (l .attributes) (attribute-formats .0) j h);
+            kind = λ i h. kind-of (rowAt s l i) (all-right (nodeKind s l) (l .nodes) (kinds .0) i h);
+            body-depth = body .depth;
+            body-element = body .element;
+            body-name = body .name;
+            later = λ i h. later-of s l i (all-right (nodeTree s l) (l .nodes) (tree .0) (suc i) h);
+            root = eqb-true (rowAt s l (l .root) .kind) 1 (root .0);
+            name = λ i h. node-text i (all-right (nodeText s l) (l .nodes) (node-texts .0) i h) .0;
+            value = λ i h. node-text i (all-right (nodeText s l) (l .nodes) (node-texts .0) i h) .1;
+            attribute-name = λ j h. attribute-text j (all-right (attributeText s l) (l .attributes) (attribute-texts .0) j h) .0;
+            attribute-value = λ j h. attribute-text j (all-right (attributeText s l) (l .attributes) (attribute-texts .0) j h) .1;
+            counts = eqb-true (countsFrom s l 0 (l .nodes)) (l .attributes) (counts .0);
+          },
+        )
+      where
+        node-text : (i : ℕ) → nodeText s l i ≡ true → Text s l (rowAt s l i .«name_at») (rowAt s l i .«name_len») × Text s l (rowAt s l i .«value_at») (rowAt s l i .«value_len»)
+        node-text i t =
+            let p = and-parts (textRight s l (rowAt s l i .«name_at») (rowAt s l i .«name_len»)) (textRight s l (rowAt s l i .«value_at») (rowAt s l i .«value_len»)) t in
+            (text-of s l _ _ (p .0), text-of s l _ _ (p .1))
+
+        attribute-text : (j : ℕ) → attributeText s l j ≡ true
+            → Text s l (attributeAt s l j .«name_at») (attributeAt s l j .«name_len») × Text s l (attributeAt s l j .«value_at») (attributeAt s l j .«value_len»)
+        attribute-text j t =
+            let p = and-parts (textRight s l (attributeAt s l j .«name_at») (attributeAt s l j .«name_len»)) (textRight s l (attributeAt s l j .«value_at») (attributeAt s l j .«value_len»)) t in
+            (text-of s l _ _ (p .0), text-of s l _ _ (p .1))
+
+-- the whole verdict
+module _ {w : ℕ} (width : w ≤ 10) {s : Bytes} {l : Layout} where
+  pub accepts : verdictOf w s ≡ Sheet l → (l .width ≡ w) × Accepted s l
+  unfolding verdictOf
+  accepts e =
+      let k = layoutOf w (quadFrom w s 0) in
+      let from-length = cond (not (eqb (length s) (sizeOf k))) (Length (sizeOf k)) (judged s k) in
+      let from-counts = cond (not (countsRight k)) Counts from-length in
+      let from-header = cond (not (lineRight w s 0 4)) (Format 0) from-counts in
+      let header = refused-first (ltb (length s) (headerLength w)) (Length (headerLength w)) from-header refl e in
+      let counts = cond-sheet (lineRight w s 0 4) (Format 0) from-counts refl header in
+      let long = cond-sheet (countsRight k) Counts from-length refl (counts .1) in
+      let lines = cond-sheet (eqb (length s) (sizeOf k)) (Length (sizeOf k)) (judged s k) refl (long .1) in
+      let n = counted k (long .0) in
+      let sized : Sized s k =
+      record { width = width; some-node = n .some-node; nodes = n .nodes; attributes = n .attributes; pool = n .pool; root = n .root; size = eqb-true (length s) (sizeOf k) (lines .0) } in
+      let j = judged-accepts s k sized (lines .1) in
+      (ap (λ (x : Layout). x .width) (sym (j .0)), subst (Accepted s) (j .0) (j .1))
+    where
+      refused-first : (b : Bool) (refuse next : Verdict) → isSheet refuse ≡ false → cond b refuse next ≡ Sheet l → next ≡ Sheet l
+      refused-first true refuse next h q = absurd-test (ap isSheet q) h
+      refused-first false refuse next h q = q

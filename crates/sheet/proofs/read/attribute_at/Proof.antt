@@ -1,0 +1,67 @@
+-- `read::attribute_at` meets its contract.
+use mathlib.Core.Path.{ap, _∙_}
+use native.Mathlib.Omega.{arith}
+use Rattle.sheet.specs.Layout.{attributeAt}
+use Rattle.sheet.specs.Lines.{attributeOf}
+use Rattle.sheet.proofs.LayoutLaws.{attribute-fits}
+use borrow.Author.Needs.{needs}
+use Rattle.sheet.proofs.read.attribute_at.Statement.{statement}
+use Rattle.sheet.proofs.read.attribute_at.Tie as tie
+
+mul-at : tie.Need-mul-at
+mul-at c = search needs
+
+add-at : tie.Need-add-at
+add-at c = search needs
+
+mul-at-2 : tie.Need-mul-at-2
+mul-at-2 c = search needs
+
+add-at-2 : tie.Need-add-at-2
+add-at-2 c = search needs
+
+mul-at-3 : tie.Need-mul-at-3
+mul-at-3 c = search needs
+
+add-at-3 : tie.Need-add-at-3
+add-at-3 c = search needs
+
+mul-at-4 : tie.Need-mul-at-4
+mul-at-4 c = search needs
+
+add-at-4 : tie.Need-add-at-4
+add-at-4 c = search needs
+
+mul-at-5 : tie.Need-mul-at-5
+mul-at-5 c = omega (arith, attribute-fits (c .before .before .pre .0 .sized) (c .before .before .args .j) (c .before .before .pre .1), c .before .before .pre .0 .sized .width)
+
+add-at-5 : tie.Need-add-at-5
+add-at-5 c = omega (arith, attribute-fits (c .before .before .pre .0 .sized) (c .before .before .args .j) (c .before .before .pre .1), c .before .before .pre .0 .sized .width)
+
+quad-at-requires : tie.Need-quad-at-requires
+quad-at-requires c κs = omega (arith, attribute-fits (c .before .before .pre .0 .sized) (c .before .before .args .j) (c .before .before .pre .1), c .before .before .pre .0 .sized .width)
+
+attribute-of-requires : tie.Need-attribute-of-requires
+attribute-of-requires c κs = search needs
+
+returns : tie.Need-returns
+unfolding attributeAt
+returns c = c .attribute-of .ensures ∙ ap attributeOf (c .before .quad-at .ensures)
+
+pub attribute-at-spec : {M : Type 1} → statement M
+attribute-at-spec =
+    tie.close
+    (tie.spec
+    mul-at
+    add-at
+    mul-at-2
+    add-at-2
+    mul-at-3
+    add-at-3
+    mul-at-4
+    add-at-4
+    mul-at-5
+    add-at-5
+    quad-at-requires
+    attribute-of-requires
+    returns)

@@ -1,0 +1,10 @@
+pub mod Descendants
+pub mod Examples
+pub mod Left
+pub mod NodeLaws
+pub mod Order
+pub mod PastLaws
+pub mod Places
+pub mod Scans
+pub mod TextLaws
+pub mod TreeLaws

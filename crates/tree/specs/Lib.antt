@@ -1,0 +1,5 @@
+pub mod Forest
+pub mod Node
+pub mod Rows
+pub mod TextContent
+pub mod Tree

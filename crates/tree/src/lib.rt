@@ -1,0 +1,1 @@
+// The DOM tree of an accepted sheet.
