@@ -124,6 +124,7 @@ damaged((14, 2), lambda p: p.nodes[1].__setitem__(0, 2))
 damaged((14, 6), lambda p: p.nodes[5].__setitem__(0, 3))
 damaged((14, 5), lambda p: p.nodes[4].__setitem__(0, 3))
 damaged((14, 5), lambda p: p.nodes[4].__setitem__(0, 2))
+damaged((14, 4), lambda p: p.nodes[3].__setitem__(0, 3))
 damaged((14, 7), lambda p: p.nodes[6].__setitem__(0, 501))
 
 
@@ -138,6 +139,18 @@ damaged((0, 0), lambda p: setattr(p, "root", 4))
 
 
 
+
+
+def deep(depth):
+    """Elements one below the other down to that depth."""
+    p = Page()
+    for d in range(1, depth + 1):
+        p.element(d, b"b", [])
+    return p.bytes()
+
+
+case((0, 0), deep(500))
+case((14, N + 501), deep(501))
 
 # 16: ranges, then counts
 damaged((16, 3), lambda p: p.nodes[2].__setitem__(6, P - p.nodes[2][5] + 1))

@@ -60,6 +60,6 @@ fn show_all(head: &mut [u8], body: &mut [u8]) {
 
 fn main() {
     let mut head = [0u8; 9];
-    let mut body = [0u8; 1024];
+    let mut body = [0u8; 40000];
     show_all(&mut head, &mut body);
 }
