@@ -6,5 +6,6 @@ pub mod Order
 pub mod PastLaws
 pub mod Places
 pub mod Scans
+pub mod SheetColumn
 pub mod TextLaws
 pub mod TreeLaws
