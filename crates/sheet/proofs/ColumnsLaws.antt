@@ -13,9 +13,7 @@ use lib.Seq.{take-suc, take-all, length-take-le}
 use borrow.Author.Tests.{le-ltb, ne-eqb, ltb-false, eqb-true}
 use Rattle.common.specs.Bytes.{Bytes}
 use Rattle.common.proofs.Choice.{by-cond}
-use Rattle.sheet.specs.Columns.{columns, ifDigit, nextColumn, columnsFrom, finish, fieldOf, ReadsBack}
-use Rattle.sheet.specs.declared.field.Columns.{Columns}
-use Rattle.sheet.specs.declared.field.Columns.the-variants.{Blank, Value, Broken}
+use Rattle.sheet.specs.Columns.{Columns, Blank, Value, Broken, columns, ifDigit, nextColumn, columnsFrom, finish, fieldOf, ReadsBack}
 use Rattle.sheet.specs.declared.field.Field.{Field}
 use Rattle.sheet.specs.declared.field.Field.the-variants.{Number, Bad}
 use Rattle.sheet.proofs.ReadingColumns.{ten-positive}

@@ -7,8 +7,6 @@ use Prim.Native.Nat.{ℕ, zero, suc, _+_, _-_, _*_, _/_, _%_, _^_, _<_}
 use lib.Dec.{ltb, eqb}
 use lib.ListN.{length, replicate}
 use Rattle.common.specs.Bytes.{Bytes}
-use Rattle.sheet.specs.declared.field.Columns.{Columns}
-use Rattle.sheet.specs.declared.field.Columns.the-variants.{Blank, Value, Broken}
 use Rattle.sheet.specs.declared.field.Field.{Field}
 use Rattle.sheet.specs.declared.field.Field.the-variants.{Number, Bad}
 
@@ -18,6 +16,12 @@ columns zero n = []
 columns (suc w) n = elim (n / 10) [ zero ↦ replicate w 32 | suc m ↦ columns w (suc m) ] ++ (48 + n % 10) ∷ []
 
 -- ---- read from the left
+
+-- what has been read of columns: spaces, a number, or neither
+pub data Columns : Type 0 where
+  Blank : Columns
+  Value : ℕ → Columns
+  Broken : Columns
 
 abbrev pub ifDigit : ℕ → Columns → Columns
 ifDigit b v = cond (ltb b 48) Broken (cond (ltb 57 b) Broken v)

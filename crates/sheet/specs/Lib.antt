@@ -4,5 +4,5 @@ pub mod Columns
 pub mod Layout
 pub mod Lines
 pub mod Notes
-pub mod Room
+pub mod Reading
 pub mod Verdict

@@ -1,9 +1,9 @@
 // Numbers in columns.
 ghost use mathlib.Core.Path.{_≡_};
-ghost use Prim.Native.Nat.{_+_, _≤_};
+ghost use Prim.Native.Nat.{_+_, _-_, _^_, _<_, _≤_};
 ghost use lib.ListN.{drop, length, take};
-ghost use Rattle.sheet.specs.Columns.{fieldOf, nextColumn};
-ghost use Rattle.sheet.specs.Room.{Room};
+ghost use Rattle.sheet.specs.Columns.{Value, columnsFrom, fieldOf, finish};
+ghost use Rattle.sheet.specs.Reading.{Spaces};
 
 // What columns hold.
 pub enum Field {
@@ -11,60 +11,65 @@ pub enum Field {
     Bad,
 }
 
-// What has been read of columns: spaces, a number, or neither.
-pub enum Columns {
-    Blank,
-    Value(usize),
-    Broken,
-}
-
-fn next_column(c: Columns, b: u8) -> Columns
-    requires { ⌜ Room c ⌝ }
-    ensures { λ r. ⌜ r ≡ nextColumn c b ⌝ }
+// The first place from at on that holds no space, or end.
+fn skip_spaces(s: &[u8], at: usize, end: usize) -> usize
+    requires { ⌜ (at ≤ end) × (end ≤ length (now s)) ⌝ }
+    ensures { λ r. ⌜ Spaces (now (s .entry)) at end r ⌝ }
 {
-    match c {
-        Columns::Blank => {
-            if b == 32 {
-                return Columns::Blank;
-            }
-            if b < 48 {
-                return Columns::Broken;
-            }
-            if b > 57 {
-                return Columns::Broken;
-            }
-            Columns::Value((b - 48) as usize)
+    let mut i = at;
+    while i < end {
+        if s[i] != 32 {
+            return i;
         }
-        Columns::Value(n) => {
-            if n == 0 {
-                return Columns::Broken;
-            }
-            if b < 48 {
-                return Columns::Broken;
-            }
-            if b > 57 {
-                return Columns::Broken;
-            }
-            Columns::Value(10 * n + (b - 48) as usize)
-        }
-        Columns::Broken => Columns::Broken,
+        i += 1;
     }
+    i
 }
 
-// The number in the width columns at at.
+// The number n with the digits up to end behind it.
+fn more_digits(s: &[u8], at: usize, end: usize, n: usize) -> Field
+    requires { ⌜ (at ≤ end) × (end ≤ length (now s)) × (end - at ≤ 18) × (0 < n) × (n < 10 ^ (19 - (end - at))) ⌝ }
+    ensures { λ r. ⌜ r ≡ finish (columnsFrom (Value n) (take (end - at) (drop at (now (s .entry))))) ⌝ }
+{
+    let mut n = n;
+    let mut i = at;
+    while i < end {
+        let b = s[i];
+        if b < 48 {
+            return Field::Bad;
+        }
+        if b > 57 {
+            return Field::Bad;
+        }
+        n = 10 * n + (b - 48) as usize;
+        i += 1;
+    }
+    Field::Number(n)
+}
+
+// The number in the width columns at at: spaces, then its digits; nothing follows a 0.
 pub fn read_field(s: &[u8], at: usize, width: usize) -> Field
     requires { ⌜ (at + width ≤ length (now s)) × (width ≤ 19) ⌝ }
     ensures { λ r. ⌜ r ≡ fieldOf (take width (drop at (now (s .entry)))) ⌝ }
 {
-    let mut c = Columns::Blank;
-    let mut i = 0;
-    while i < width {
-        c = next_column(c, s[at + i]);
-        i += 1;
+    let end = at + width;
+    let i = skip_spaces(s, at, end);
+    if i == end {
+        return Field::Bad;
     }
-    match c {
-        Columns::Value(n) => Field::Number(n),
-        Columns::Blank => Field::Bad,
-        Columns::Broken => Field::Bad,
+    let b = s[i];
+    if b < 48 {
+        return Field::Bad;
     }
+    if b > 57 {
+        return Field::Bad;
+    }
+    let next = i + 1;
+    if b == 48 {
+        if next == end {
+            return Field::Number(0);
+        }
+        return Field::Bad;
+    }
+    more_digits(s, next, end, (b - 48) as usize)
 }

@@ -23,8 +23,8 @@ module _ {s : Bytes} {l : Layout} (accepted : Accepted s l) where
         root = depths-at s l 0 (accepted .sized .some-node) ∙ accepted .body-depth;
         later = λ i h. let k : suc i < l .nodes = omega (arith, rows) in omega (arith, depths-at s l (suc i) k, accepted .later i k .some-depth);
         step = λ i h.
-          let k : suc i < l .nodes = omega (arith, rows) in
-          omega (arith, depths-at s l (suc i) k, depths-at s l i (omega arith), accepted .later i k .no-jump);
+            let k : suc i < l .nodes = omega (arith, rows) in
+            omega (arith, depths-at s l (suc i) k, depths-at s l i (omega arith), accepted .later i k .no-jump);
       }
 
   pub tree-of-sheet : TreeOfColumn (depths s l)

@@ -1,0 +1,13 @@
+-- What is left of columns behind their spaces.
+use mathlib.Core.Path.{_≡_}
+use Prim.Native.Nat.{ℕ, _-_, _≤_, _<_}
+use lib.ListN.{getD, take, drop}
+use Rattle.common.specs.Bytes.{Bytes}
+use Rattle.sheet.specs.Columns.{Blank, columnsFrom}
+
+-- only spaces stand from `at` up to `place`, and no space at it, unless it is the end
+pub record Spaces (s : Bytes) (at end place : ℕ) : Type 0 where
+  pub from : at ≤ place
+  pub to : place ≤ end
+  pub left : columnsFrom Blank (take (end - place) (drop place s)) ≡ columnsFrom Blank (take (end - at) (drop at s))
+  pub no-space : place < end → getD s place 0 ≡ 32 → ⊥
