@@ -1,3 +1,4 @@
+pub mod Column
 pub mod Descendants
 pub mod Examples
 pub mod Left
@@ -5,6 +6,7 @@ pub mod NodeLaws
 pub mod Order
 pub mod PastLaws
 pub mod Places
+pub mod QuestionsLaws
 pub mod Scans
 pub mod SheetColumn
 pub mod TextLaws

@@ -1,5 +1,6 @@
 pub mod Forest
 pub mod Node
+pub mod Questions
 pub mod Rows
 pub mod TextContent
 pub mod Tree
