@@ -1,0 +1,1 @@
+// Definitions and laws only: two f64 quotients of whole numbers.
