@@ -1,3 +1,4 @@
+pub mod AttributeLines
 pub mod Column
 pub mod Descendants
 pub mod Examples

@@ -1,3 +1,4 @@
+pub mod Attributes
 pub mod Forest
 pub mod Node
 pub mod Questions

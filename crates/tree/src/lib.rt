@@ -1,3 +1,4 @@
 // The DOM tree of an accepted sheet.
+pub mod attributes;
 pub mod questions;
 pub mod relatives;
