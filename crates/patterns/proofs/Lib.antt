@@ -1,0 +1,12 @@
+pub mod AnswerLaws
+pub mod ByteCodes
+pub mod CandidateLaws
+pub mod ExampleLaws
+pub mod Lengths
+pub mod MaskNumbers
+pub mod MatchLaws
+pub mod SearchLaws
+pub mod SetLaws
+pub mod StartLaws
+pub mod StepNumbers
+pub mod Tables

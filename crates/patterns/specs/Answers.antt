@@ -1,0 +1,27 @@
+-- What the entry point answers, and document 01's numbers for it.
+use mathlib.Core.Bool.{Bool, true, false, cond}
+use Prim.Native.Nat.{ℕ}
+use lib.Dec.{ltb}
+use Rattle.common.specs.Bytes.{Bytes}
+use Rattle.common.specs.Answer.{Answer, refused}
+use Rattle.patterns.specs.Match.{matchesOf}
+use Rattle.patterns.specs.declared.Matched.{Matched}
+use Rattle.patterns.specs.declared.Matched.the-variants.{Yes, No, NoPattern}
+
+-- 0 with second number 1 for yes and 0 for no
+abbrev pub said : Bool → Answer
+said b = record { number = 0; second = cond b 1 0; visits = 0; length = 0 }
+
+-- the numbers of each case; "36: pattern number above 20; second number that"
+abbrev pub numbers : Matched → Answer
+numbers Yes = said true
+numbers No = said false
+numbers (NoPattern p) = refused 36 p
+
+-- in document 01's numbers
+abbrev pub answerOf : ℕ → Bytes → Answer
+answerOf p s = cond (ltb 20 p) (refused 36 p) (said (matchesOf p s))
+
+-- the cases themselves
+abbrev pub matched : ℕ → Bytes → Matched
+matched p s = cond (ltb 20 p) (NoPattern p) (cond (matchesOf p s) Yes No)

@@ -1,0 +1,24 @@
+-- `code_at` meets its contract.
+use mathlib.Core.Path.{sym}
+use lib.ListN.{List·getD-eq-default}
+use Rattle.regex.proofs.StepLaws.{getD-default}
+use borrow.Author.Needs.{needs}
+use Rattle.regex.proofs.code_at.Statement.{statement}
+use Rattle.regex.proofs.code_at.Tie as tie
+
+mul-result : tie.Need-mul-result
+mul-result c = search needs
+
+shared-slice-read-result : tie.Need-shared-slice-read-result
+shared-slice-read-result c = search needs
+
+returns : tie.Need-returns
+returns c =
+    let a = c .before .before .args in
+    getD-default (a .steps .now) (a .i) 0 6 (c .before .if1 .taken)
+
+returns-2 : tie.Need-returns-2
+returns-2 c = sym (List·getD-eq-default (c .before .args .steps .now) 6 (c .if1 .left))
+
+pub code-at-spec : {M : Type 1} → statement M
+code-at-spec = tie.close (tie.spec mul-result shared-slice-read-result returns returns-2)
