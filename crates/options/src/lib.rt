@@ -1,0 +1,43 @@
+// The options of an extraction (`ExtractOptions` of html2text.rs), without those that only shape selectors, and icons.
+ghost use mathlib.Core.Path.{_≡_};
+ghost use Rattle.options.specs.Options.{standing};
+
+pub enum Formatting {
+    Off,
+    Basic,
+    MinimalHtml,
+}
+
+// icons: false as the Rust, true private.
+pub struct ExtractOptions {
+    pub formatting: Formatting,
+    pub main_content: bool,
+    pub list_bullets: bool,
+    pub alt_texts: bool,
+    pub links: bool,
+    pub form_fields: bool,
+    pub comments: bool,
+    pub post_meta: bool,
+    pub hidden_elements: bool,
+    pub icons: bool,
+}
+
+impl ExtractOptions {
+    // The standing options.
+    pub fn default() -> ExtractOptions
+        ensures { λ r. ⌜ r ≡ standing ⌝ }
+    {
+        ExtractOptions {
+            formatting: Formatting::Basic,
+            main_content: false,
+            list_bullets: true,
+            alt_texts: true,
+            links: false,
+            form_fields: false,
+            comments: true,
+            post_meta: true,
+            hidden_elements: false,
+            icons: false,
+        }
+    }
+}
