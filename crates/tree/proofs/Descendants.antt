@@ -11,10 +11,10 @@ use borrow.Author.Tests.{le-ltb, lt-ltb, eqb-true, eqb-false}
 use Rattle.common.proofs.Choice.{by-test}
 use Rattle.sheet.specs.Column.{lastAbove, parentOf}
 use Rattle.tree.specs.Forest.{preorder, Descendant, child, below}
-use Rattle.tree.specs.Rows.{WellFormed, numbered, rowsFrom, pastFrom, pastOf}
+use Rattle.tree.specs.Rows.{WellFormed, numbered, rowsFrom, pastFrom, pastOf, forestFrom}
 use Rattle.tree.proofs.Order.{trichotomy, within, preorder-below, preorder-rows, steps-after}
 use Rattle.tree.proofs.PastLaws.{above-or-not, past-low, past-inside, past-at, past-of-low, past-of-high, past-is}
-use Rattle.tree.proofs.Places.{depths-numbered, forestFrom}
+use Rattle.tree.proofs.Places.{depths-numbered}
 use Rattle.tree.proofs.Scans.{past-cons-stop, past-cons-more, above-suc-hit, above-suc-more, above-found}
 
 -- ---- a run of row numbers

@@ -8,7 +8,7 @@ use native.Mathlib.Omega.{arith}
 use lib.ListN.{length, getD, drop}
 use Rattle.sheet.specs.Column.{lastAbove, parentOf}
 use Rattle.tree.specs.Forest.{Forest, empty, node, preorderAt, first, Place}
-use Rattle.tree.specs.Rows.{WellFormed, depthsOf, build, numbered, forestOf, scanOf}
+use Rattle.tree.specs.Rows.{WellFormed, depthsOf, build, numbered, forestFrom, forestOf, scanOf}
 use Rattle.tree.specs.Tree.{TreeOf}
 use Rattle.tree.proofs.Left.{left-head, left-tail, left-inside}
 use Rattle.tree.proofs.Order.{trichotomy, build-deeper, build-here, build-less, tree-of}
@@ -18,10 +18,6 @@ pub depths-numbered : (k : ℕ) (l : List ℕ) → depthsOf (numbered k l) ≡ l
 unfolding numbered
 depths-numbered k [] = refl
 depths-numbered k (x ∷ l) = ap (λ (t : List ℕ). x ∷ t) (depths-numbered (suc k) l)
-
--- the trees at depth d that begin at row k or later
-abbrev pub forestFrom : List ℕ → ℕ → ℕ → Forest ℕ
-forestFrom depths k d = build (numbered k (drop k depths)) d
 
 -- the search of the column finds the first tree
 pub scan-first : (d j : ℕ) (l : List ℕ) → first (build (numbered j l) d) ≡ scanOf d j l

@@ -31,6 +31,14 @@ unfoldable pub numbered : ℕ → List ℕ → List (ℕ × ℕ)
 numbered j [] = []
 numbered j (x ∷ depths) = (x, j) ∷ numbered (suc j) depths
 
+-- the trees at depth d that begin at row k or later
+abbrev pub forestFrom : List ℕ → ℕ → ℕ → Forest ℕ
+forestFrom depths k d = build (numbered k (drop k depths)) d
+
+-- what stands below row i
+abbrev pub childrenOf : List ℕ → ℕ → Forest ℕ
+childrenOf depths i = forestFrom depths (suc i) (suc (getD depths i 0))
+
 -- the forest of the row numbers
 abbrev pub forestOf : List ℕ → Forest ℕ
 forestOf depths = build (numbered 0 depths) 0

@@ -1,0 +1,33 @@
+-- A sheet as decoded: depths, and rows with the bytes that their ranges show (document 01, "The sheet").
+use mathlib.Core.Bool.{Bool, cond}
+use mathlib.Core.List.{List}
+use Prim.Native.Nat.{ℕ}
+use lib.Dec.{eqb}
+use Rattle.common.specs.Bytes.{Bytes}
+use Rattle.sheet.specs.Layout.{depths, rowAt, range}
+use Rattle.sheet.specs.Verdict.{countsFrom}
+use Rattle.sheet.specs.declared.line.Layout.{Layout}
+use Rattle.tree.specs.Attributes.{attributesFrom}
+use Rattle.tree.specs.Node.{Kind, element, text, comment, Node}
+
+pub record Page : Type 0 where
+  pub depths : List ℕ
+  pub node : ℕ → Node
+  pub marked : ℕ → Bool
+  pub root : ℕ
+
+-- "kind (1 element, 3 text, 8 comment)"
+unfoldable pub kindOf : ℕ → Kind
+kindOf k = cond (eqb k 1) element (cond (eqb k 3) text comment)
+
+module _ (s : Bytes) (l : Layout) where
+  unfoldable pub nodeAt : ℕ → Node
+  nodeAt i = record {
+    kind = kindOf (rowAt s l i .kind);
+    name = range s l (rowAt s l i .«name_at») (rowAt s l i .«name_len»);
+    value = range s l (rowAt s l i .«value_at») (rowAt s l i .«value_len»);
+    attributes = attributesFrom s l (countsFrom s l 0 i) (rowAt s l i .attributes);
+  }
+
+  abbrev pub pageOf : Page
+  pageOf = record { depths = depths s l; node = nodeAt; marked = λ i. eqb (rowAt s l i .skip) 1; root = l .root }
