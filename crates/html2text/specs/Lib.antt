@@ -1,1 +1,5 @@
+pub mod Collect
+pub mod Extract
+pub mod Pieces
 pub mod Serialize
+pub mod Walk
