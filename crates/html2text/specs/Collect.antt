@@ -46,36 +46,37 @@ lastPreDepth (last ∷ before) = last .node .«pre_depth»
 abbrev pub isLink : ExtractOptions → ℕ → Bool
 isLink o t = o .links && isA t
 
--- whether an entry is pushed; entries are held newest first
+-- whether an event at `depth` pushes an entry, where there is one already, at depth `last`
+abbrev pub pushesAfter : ExtractOptions → ℕ → ℕ → ℕ → Bool
+pushesAfter o last t depth = (isBlockTag t || ltb depth last) || (isLink o t || (isTextarea t || isCell t))
+
+-- entries are held newest first
 abbrev pub pushes : ExtractOptions → List Entry → Event → Bool
 pushes o [] e = true
-pushes o (last ∷ before) e =
-    let t = tagNumber (e .node) in
-    (isBlockTag t || ltb (e .depth) (last .node .depth)) || (isLink o t || (isTextarea t || isCell t))
+pushes o (last ∷ before) e = pushesAfter o (last .node .depth) (tagNumber (e .node)) (e .depth)
 
 abbrev pub preDepth : ℕ → Bool → ℕ → ℕ
 preDepth t end before = cond (isPre t || isTextarea t) (cond end (before - 1) (before + 1)) before
 
--- `nodes.push(ExtractNode { .. })`
-abbrev pub pushed : ExtractOptions → List Entry → Event → Entry
-pushed o nodes e =
+-- `ExtractNode { .. }`; `before` is the `pre_depth` of the entry before
+abbrev pub pushedNode : ExtractOptions → ℕ → Event → ExtractNode
+pushedNode o before e =
     let t = tagNumber (e .node) in
     record {
-      row = e .row;
-      node =
-          record {
-            tag = t;
-            «has_children» = e .children;
-            depth = e .depth;
-            «pre_depth» = preDepth t (e .end) (lastPreDepth nodes);
-            «collapse_margins» = true;
-            block = isBlockTag t;
-            «big_block» = isBigBlock t;
-            end = e .end;
-            escape = isMinimalHtml (o .formatting);
-          };
-      text = [];
+      tag = t;
+      «has_children» = e .children;
+      depth = e .depth;
+      «pre_depth» = preDepth t (e .end) before;
+      «collapse_margins» = true;
+      block = isBlockTag t;
+      «big_block» = isBigBlock t;
+      end = e .end;
+      escape = isMinimalHtml (o .formatting);
     }
+
+-- `nodes.push(..)`
+abbrev pub pushed : ExtractOptions → List Entry → Event → Entry
+pushed o nodes e = record { row = e .row; node = pushedNode o (lastPreDepth nodes) e; text = [] }
 
 -- `if name == "br" && opts.formatting == Formatting::Basic`, `else if opts.links && name == "a"`: what they set in `current`
 abbrev pub isBreak : ExtractOptions → ℕ → Bool
