@@ -1,0 +1,26 @@
+// The types of an extraction.
+use sheet::verdict::Verdict;
+
+// `ExtractNode` of html2text.rs, with the number of its tag, and without its text.
+pub struct ExtractNode {
+    pub tag: u8,
+    pub has_children: bool,
+    pub depth: usize,
+    pub pre_depth: usize,
+    pub collapse_margins: bool,
+    pub block: bool,
+    pub big_block: bool,
+    pub end: bool,
+    pub escape: bool,
+}
+
+// What an extraction answers: a text's visits and length; a sheet that is refused; the line of the node whose list level or open
+// row would be one too many; the need of a buffer that is too short.
+pub enum Extraction {
+    Text { visits: usize, len: usize },
+    Refused(Verdict),
+    ListLevels(usize),
+    OpenRows(usize),
+    WorkTooShort(usize),
+    OutTooShort(usize),
+}
