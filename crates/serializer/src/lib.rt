@@ -1,14 +1,16 @@
 // One step of `serialize`, over numbers and lent arrays: its text is written, or only measured.
-pub mod html;
-pub mod lists;
-pub mod margins;
-pub mod rows;
+mod html;
+mod lists;
+mod margins;
+mod rows;
 pub mod step;
-pub mod texts;
+mod texts;
 
 use writer::Writer;
 ghost use mathlib.Core.Path.{_≡_};
 ghost use Prim.Native.Nat.{_-_};
+ghost use Rattle.html2text.specs.Serialize.{changesLevel};
+ghost use Rattle.tags.specs.Tags.{isList};
 
 // The numbers of the tags that are told apart (crates/tags).
 const TR: u8 = 1;
@@ -48,11 +50,25 @@ pub struct Serializer {
 }
 
 // `x.saturating_sub(1)`
-pub fn less_one(x: usize) -> usize
+fn less_one(x: usize) -> usize
     ensures { λ r. ⌜ r ≡ x - 1 ⌝ }
 {
     if x == 0 {
         return 0;
     }
     x - 1
+}
+
+// `matches!(n.tag.as_str(), "ul" | "ol")`
+fn is_list(tag: u8) -> bool
+    ensures { λ r. ⌜ r ≡ isList tag ⌝ }
+{
+    tag == UL || tag == OL
+}
+
+// Whether a list level opens or closes.
+pub fn changes_level(tag: u8, depth: usize) -> bool
+    ensures { λ r. ⌜ r ≡ changesLevel tag depth ⌝ }
+{
+    is_list(tag) || (tag == LI && depth == 0)
 }

@@ -3,7 +3,7 @@ use crate::LI;
 use crate::OL;
 use crate::Prefix;
 use crate::Serializer;
-use crate::UL;
+use crate::changes_level;
 use crate::less_one;
 use html2text::ExtractNode;
 ghost use mathlib.Core.Bool.{_&&_, false, not, true};
@@ -11,23 +11,9 @@ ghost use mathlib.Core.Path.{_≡_};
 ghost use Prim.Native.Nat.{_-_, _<_, _≤_};
 ghost use lib.ListN.{length};
 ghost use Rattle.html2text.specs.Serialize.{changesLevel, item, level, one};
-ghost use Rattle.tags.specs.Tags.{isLi, isList, isOl};
+ghost use Rattle.tags.specs.Tags.{isLi, isOl};
 ghost use Rattle.serializer.specs.Serializing.{Numbers, WorksLevels, counted, lastNumber, levels, setBullet, setDepth, setPrefix};
 ghost use Rattle.serializer.specs.declared.Prefix.the-variants.{Nothing};
-
-// `matches!(n.tag.as_str(), "ul" | "ol")`
-pub fn is_list(tag: u8) -> bool
-    ensures { λ r. ⌜ r ≡ isList tag ⌝ }
-{
-    tag == UL || tag == OL
-}
-
-// Whether a list level opens or closes.
-pub fn changes_level(tag: u8, depth: usize) -> bool
-    ensures { λ r. ⌜ r ≡ changesLevel tag depth ⌝ }
-{
-    is_list(tag) || (tag == LI && depth == 0)
-}
 
 fn first_number(tag: u8) -> usize
     ensures { λ r. ⌜ r ≡ one (isOl tag) ⌝ }

@@ -1,7 +1,7 @@
 -- `is_list` meets its contract.
 use borrow.Author.Tests.{eq-eqb, ne-eqb}
-use Rattle.serializer.proofs.lists.is_list.Statement.{statement}
-use Rattle.serializer.proofs.lists.is_list.Tie as tie
+use Rattle.serializer.proofs.is_list.Statement.{statement}
+use Rattle.serializer.proofs.is_list.Tie as tie
 
 returns : tie.Need-returns
 returns c = rw (eq-eqb _ _ (c .if1 .taken))

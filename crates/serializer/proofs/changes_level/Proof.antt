@@ -2,8 +2,8 @@
 use mathlib.Core.Path.{sym, _∙_}
 use borrow.Author.Tests.{eq-eqb, ne-eqb}
 use borrow.Author.Needs.{needs}
-use Rattle.serializer.proofs.lists.changes_level.Statement.{statement}
-use Rattle.serializer.proofs.lists.changes_level.Tie as tie
+use Rattle.serializer.proofs.changes_level.Statement.{statement}
+use Rattle.serializer.proofs.changes_level.Tie as tie
 
 is-list-requires : tie.Need-is-list-requires
 is-list-requires c κs = search needs
