@@ -1,0 +1,3 @@
+pub mod CostLaws
+pub mod DigitsLaws
+pub mod OutLaws
