@@ -1,1 +1,4 @@
 pub mod FusionLaws
+pub mod LevelLaws
+pub mod MeasureLaws
+pub mod RunLaws
