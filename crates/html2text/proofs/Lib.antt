@@ -1,4 +1,5 @@
 pub mod FusionLaws
 pub mod LevelLaws
 pub mod MeasureLaws
+pub mod RiseLaws
 pub mod RunLaws
