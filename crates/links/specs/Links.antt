@@ -37,10 +37,15 @@ module _ (nodeOf : ℕ → Node) (depths : List ℕ) where
   unfolding linksAmong
   linkBytes i = linksAmong (preorder (childrenOf depths i))
 
--- by a rule, the text bytes and the link bytes: "The measure's outcome is no text, too long, no links, or a share", "limit 0 is none", "one f64 division of collapsed link bytes .. by collapsed text bytes"
+-- `max_length > 0 && text.len() > max_length`: "limit 0 is none"
+abbrev pub isTooLong : Rule → ℕ → Bool
+isTooLong rule total = ltb 0 (rule .limit) && ltb (rule .limit) total
+
+-- by a rule, the text bytes and the link bytes: "The measure's outcome is no text, too long, no links, or a share",
+-- "one f64 division of collapsed link bytes .. by collapsed text bytes"
 unfoldable pub measureOf : Rule → ℕ → ℕ → Measure
 measureOf rule total links =
-    elim (ltb 0 (rule .limit) && ltb (rule .limit) total) [
+    elim (isTooLong rule total) [
       | true ↦ TooLong
       | false ↦ elim (eqb total 0) [ true ↦ NoText | false ↦ elim (eqb links 0) [ true ↦ NoLinks | false ↦ Share (quotient links total) ] ]
     ]

@@ -1,0 +1,132 @@
+-- An extraction: `serialize` over all entries with 21 and 22, the needs of 31 and 32, the answer, and what the lent buffers hold after it
+-- (document 01, "Who can cause which number").
+use mathlib.Core.Bool.{Bool, true, false, _&&_, _||_, not, cond}
+use mathlib.Core.List.{List, [], _∷_}
+use Prim.Native.Nat.{ℕ, zero, suc, _+_}
+use lib.Dec.{leb, ltb}
+use lib.ListN.{length}
+use Rattle.common.specs.Answer.{Answer, refused}
+use Rattle.common.specs.Bytes.{Bytes, codes, padded}
+use Rattle.options.specs.Options.{isOff}
+use Rattle.options.specs.declared.ExtractOptions.{ExtractOptions}
+use Rattle.options.specs.declared.Formatting.{Formatting}
+use Rattle.sheet.specs.Verdict as verdict
+use Rattle.tags.specs.Tags.{isTr}
+use Rattle.text.specs.Text.{rstrip}
+use Rattle.tree.specs.Node.{element, text, comment, Node}
+use Rattle.tree.specs.Page.{Page}
+use Rattle.writer.specs.Out.{greater}
+use Rattle.html2text.specs.Collect.{Entry, attr, collectAll}
+use Rattle.html2text.specs.Serialize.{State, start, step, changesLevel}
+use Rattle.html2text.specs.Walk.{events, visits, treeOf}
+use Rattle.html2text.specs.declared.ExtractNode.{ExtractNode}
+use Rattle.html2text.specs.declared.Extraction.{Extraction}
+use Rattle.html2text.specs.declared.Extraction.the-variants.{Text, Refused, ListLevels, OpenRows, WorkTooShort, OutTooShort}
+
+-- ---- `serialize`, until an entry is refused
+
+-- the state after all entries, or the line of the first that is refused
+pub data Run : Type 0 where
+  going : State → Run
+  tooManyLevels : ℕ → Run
+  tooManyRows : ℕ → Run
+
+-- "21: list depth would pass 1,024. Formatting Off never counts it."
+abbrev pub passesLevels : Formatting → ExtractNode → State → Bool
+passesLevels f n S = not (isOff f) && (not (n .end) && (changesLevel (n .tag) (S .depth) && leb 1024 (S .depth)))
+
+-- "22: open table rows would pass 1,024."
+abbrev pub passesRows : ExtractNode → State → Bool
+passesRows n S = isTr (n .tag) && (not (n .end) && leb 1024 (length (S .rowHasCell)))
+
+-- "second number: the node's line"; the header is line 0
+abbrev pub lineOf : Entry → ℕ
+lineOf e = suc (e .row)
+
+abbrev pub taken : Formatting → Bool → Entry → Run → Run
+taken f bullets e (going S) =
+    cond (passesLevels f (e .node) S) (tooManyLevels (lineOf e))
+    (cond (passesRows (e .node) S) (tooManyRows (lineOf e)) (going (step f bullets (e .node) (e .text) S)))
+taken f bullets e (tooManyLevels line) = tooManyLevels line
+taken f bullets e (tooManyRows line) = tooManyRows line
+
+-- entries are held newest first
+unfoldable pub serialized : ExtractOptions → List Entry → Run
+serialized o [] = going start
+serialized o (e ∷ before) = taken (o .formatting) (o .«list_bullets») e (serialized o before)
+
+-- `rstrip(&mut out)`, at the end
+abbrev pub finished : State → Bytes
+finished S = rstrip (S .out .text)
+
+-- ---- "31: work too short. Need: the longest `text` of any entry before collapsing or, with main_content, the longest class length + 1 +
+-- id length of any element row if that is more."
+
+unfoldable pub longestText : List Entry → ℕ
+longestText [] = 0
+longestText (e ∷ before) = greater (longestText before) (length (e .text))
+
+unfoldable pub namesLength : Node → ℕ
+namesLength n =
+    elim (n .kind) [ element ↦ length (attr n (codes "class")) + 1 + length (attr n (codes "id")) | text ↦ 0 | comment ↦ 0 ]
+
+-- of the first k rows
+unfoldable pub longestNames : (ℕ → Node) → ℕ → ℕ
+longestNames nodeOf zero = 0
+longestNames nodeOf (suc k) = greater (longestNames nodeOf k) (namesLength (nodeOf k))
+
+-- ---- "The caller's 31 is tested after 21 and 22, 32 after 31."
+
+module _ (need passes : ℕ) where
+  abbrev pub concluded : Run → ℕ → ℕ → Extraction
+  concluded (going S) out work =
+      cond (ltb work need) (WorkTooShort need)
+      (cond (ltb out (S .out .peak)) (OutTooShort (S .out .peak)) (Text passes (length (finished S))))
+  concluded (tooManyLevels line) out work = ListLevels line
+  concluded (tooManyRows line) out work = OpenRows line
+
+  -- "After a refusal out is unchanged. .. After a text: .. out holds the text and zeros behind it."
+  abbrev pub outThen : Run → Bytes → Bytes → Bytes
+  outThen (going S) out work =
+      cond (ltb (length work) need) out (cond (ltb (length out) (S .out .peak)) out (padded (finished S) (length out)))
+  outThen (tooManyLevels line) out work = out
+  outThen (tooManyRows line) out work = out
+
+  -- "Work is unchanged too, except after 32, when it is all zero. After a text: work is all zero"
+  abbrev pub workThen : Run → Bytes → Bytes
+  workThen (going S) work = cond (ltb (length work) need) work (padded [] (length work))
+  workThen (tooManyLevels line) work = work
+  workThen (tooManyRows line) work = work
+
+-- ---- of a page: `filtered` says which rows `is_main_content` leaves out
+
+module _ (filtered : ℕ → Bool) (p : Page) (o : ExtractOptions) where
+  abbrev pub hidden : ℕ → Bool
+  hidden i = p .marked i || filtered i
+
+  abbrev pub entries : List Entry
+  entries = collectAll o [] (events (p .node) hidden 0 (treeOf p))
+
+  abbrev pub passes : ℕ
+  passes = visits (p .node) hidden (treeOf p)
+
+  abbrev pub workNeed : ℕ
+  workNeed = greater (longestText entries) (cond (o .«main_content») (longestNames (p .node) (length (p .depths))) 0)
+
+  unfoldable pub extraction : ℕ → ℕ → Extraction
+  extraction out work = concluded workNeed passes (serialized o entries) out work
+
+  unfoldable pub outAfter : Bytes → Bytes → Bytes
+  outAfter out work = outThen workNeed passes (serialized o entries) out work
+
+  unfoldable pub workAfter : Bytes → Bytes
+  workAfter work = workThen workNeed passes (serialized o entries) work
+
+-- the numbers of each case: number, second number, visits, length
+abbrev pub numbers : Extraction → Answer
+numbers (Text passes len) = record { number = 0; second = 0; visits = passes; length = len }
+numbers (Refused v) = verdict.numbers v
+numbers (ListLevels line) = refused 21 line
+numbers (OpenRows line) = refused 22 line
+numbers (WorkTooShort need) = refused 31 need
+numbers (OutTooShort need) = refused 32 need
