@@ -8,3 +8,4 @@ pub mod OrLaws
 pub mod RunLaws
 pub mod SaidLaws
 pub mod Standing
+pub mod WalkLaws
