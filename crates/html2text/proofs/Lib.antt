@@ -1,1 +1,12 @@
+pub mod BlankRuns
+pub mod CollectLaws
+pub mod DemandLaws
+pub mod FurtherPieces
 pub mod FusionLaws
+pub mod LostStrip
+pub mod OffLaws
+pub mod OrLaws
+pub mod RunLaws
+pub mod SaidLaws
+pub mod Standing
+pub mod WalkLaws
