@@ -3,9 +3,13 @@ pub mod CollectLaws
 pub mod DemandLaws
 pub mod FurtherPieces
 pub mod FusionLaws
+pub mod LevelLaws
 pub mod LostStrip
+pub mod MeasureLaws
 pub mod OffLaws
 pub mod OrLaws
+pub mod RiseLaws
+pub mod GoingLaws
 pub mod RunLaws
 pub mod SaidLaws
 pub mod Standing

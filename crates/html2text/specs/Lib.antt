@@ -2,6 +2,7 @@ pub mod Collect
 pub mod Demand
 pub mod Extract
 pub mod Fused
+pub mod Levels
 pub mod Pieces
 pub mod Serialize
 pub mod Theorems
