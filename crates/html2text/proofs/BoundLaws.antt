@@ -25,7 +25,7 @@ use Rattle.html2text.specs.Serialize.{State, changesLevel, step}
 use Rattle.html2text.specs.declared.ExtractNode.{ExtractNode}
 use Rattle.html2text.proofs.LevelLaws.{step-levels}
 use Rattle.html2text.proofs.MeasureLaws.{below-fed}
-use Rattle.html2text.proofs.RunLaws.{going-taken}
+use Rattle.html2text.proofs.GoingLaws.{going-taken}
 use Rattle.html2text.proofs.StepBounds.{Within, within-step}
 
 -- ---- list depth and open rows: a step that would pass is refused

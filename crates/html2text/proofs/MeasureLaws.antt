@@ -20,7 +20,7 @@ use Rattle.html2text.specs.Levels.{counted, depthRefused, rowsRefused, d
 use Rattle.html2text.specs.Serialize.{State, step}
 use Rattle.html2text.proofs.FusionLaws.{fusion}
 use Rattle.html2text.proofs.LevelLaws.{step-levels}
-use Rattle.html2text.proofs.RunLaws.{going-at, going-taken}
+use Rattle.html2text.proofs.GoingLaws.{going-at, going-taken}
 
 pub levels-taken : (f : Formatting) (bullets : Bool) (e : Entry) (R : Run) → levelsOf (taken f bullets e R) ≡ levelsTaken f (lineOf e) (e .node) (levelsOf R)
 levels-taken f bullets e (going S) = go (passesLevels f (e .node) S) (passesRows (e .node) S)

@@ -1,21 +1,37 @@
--- What holds of the state along a run of `serialize`, over entries or fused with `collect`.
-use mathlib.Core.Path.{_≡_, subst}
-use mathlib.Core.Bool.{Bool, false}
-use Rattle.common.proofs.Choice.{by-cond}
-use Rattle.options.specs.declared.Formatting.{Formatting}
+-- A run of `serialize` that goes on has gone on before, by one step an entry.
+use mathlib.Core.Path.{_≡_, refl}
+use mathlib.Core.Bool.{Bool, true, false, cond}
+use mathlib.Core.List.{List, [], _∷_}
+use Prim.Native.Nat.{ℕ}
+use native.Mathlib.Omega.{arith}
+use Rattle.options.specs.declared.ExtractOptions.{ExtractOptions}
 use Rattle.html2text.specs.Collect.{Entry}
-use Rattle.html2text.specs.Bounds.{Going}
-use Rattle.html2text.specs.Extract.{Run, going, tooManyLevels, tooManyRows, passesLevels, passesRows, taken}
-use Rattle.html2text.specs.Serialize.{State, step}
+use Rattle.html2text.specs.Extract.{Run, going, tooManyLevels, tooManyRows, passesLevels, passesRows, lineOf, taken, serialized}
+use Rattle.html2text.specs.Serialize.{State, start, step}
 
-pub going-at : (P : State → Type 0) {R : Run} {S : State} → Going P R → R ≡ going S → P S
-going-at P g e = subst (Going P) e g
+-- the state that the entry was taken in
+pub record From (o : ExtractOptions) (e : Entry) (r : Run) (S : State) : Type 0 where
+  pub state : State
+  pub before : r ≡ going state
+  pub after : S ≡ step (o .formatting) (o .«list_bullets») (e .node) (e .text) state
 
--- an entry is taken only where it passes neither limit
-pub going-taken : (P Q : State → Type 0) (f : Formatting) (bullets : Bool) (e : Entry) (R : Run)
-    → ((S : State) → passesLevels f (e .node) S ≡ false → passesRows (e .node) S ≡ false → P S → Q (step f bullets (e .node) (e .text) S))
-    → Going P R → Going Q (taken f bullets e R)
-going-taken P Q f bullets e (going S) s g =
-    by-cond (Going Q) (passesLevels f (e .node) S) (λ a. tt) (λ a. by-cond (Going Q) (passesRows (e .node) S) (λ b. tt) (λ b. s S a b g))
-going-taken P Q f bullets e (tooManyLevels line) s g = tt
-going-taken P Q f bullets e (tooManyRows line) s g = tt
+taken-from : (o : ExtractOptions) (e : Entry) (r : Run) (S : State) → taken (o .formatting) (o .«list_bullets») e r ≡ going S → From o e r S
+taken-from o e (tooManyLevels line) S h = absurd (let z : _≡_ {A = ℕ} 0 1 = cc in omega arith)
+taken-from o e (tooManyRows line) S h = absurd (let z : _≡_ {A = ℕ} 0 1 = cc in omega arith)
+taken-from o e (going T) S h = go (passesLevels (o .formatting) (e .node) T) (passesRows (e .node) T) h
+  where
+    next : State
+    next = step (o .formatting) (o .«list_bullets») (e .node) (e .text) T
+
+    go : (a b : Bool) → cond a (tooManyLevels (lineOf e)) (cond b (tooManyRows (lineOf e)) (going next)) ≡ going S → From o e (going T) S
+    go true b q = absurd (let z : _≡_ {A = ℕ} 0 1 = cc in omega arith)
+    go false true q = absurd (let z : _≡_ {A = ℕ} 0 1 = cc in omega arith)
+    go false false q = record { state = T; before = refl; after = cc }
+
+pub serialized-from : (o : ExtractOptions) (e : Entry) (before : List Entry) (S : State) → serialized o (e ∷ before) ≡ going S → From o e (serialized o before) S
+unfolding serialized
+serialized-from o e before S h = taken-from o e (serialized o before) S h
+
+pub serialized-start : (o : ExtractOptions) (S : State) → serialized o [] ≡ going S → S ≡ start
+unfolding serialized
+serialized-start o S h = cc

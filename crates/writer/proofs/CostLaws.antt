@@ -1,12 +1,12 @@
 -- How far a function that writes can raise the greatest length.
-use mathlib.Core.Path.{_≡_, ap}
+use mathlib.Core.Path.{ap}
 use Prim.Native.Nat.{ℕ, _+_, _≤_}
 use native.Mathlib.Omega.{arith}
 use lib.ListN.{length, length-append}
 use Rattle.common.specs.Bytes.{Bytes}
 use Rattle.text.specs.Text.{isSpace}
 use Rattle.text.proofs.TrimLaws.{rstrip-length}
-use Rattle.writer.specs.Out.{Out, greater, pushAll, strip}
+use Rattle.writer.specs.Out.{Out, pushAll, strip}
 use Rattle.writer.proofs.OutLaws.{greater-max, push-all-text, push-all-peak}
 
 -- by at most c; and the length stays at most the greatest

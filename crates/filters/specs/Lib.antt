@@ -1,0 +1,4 @@
+pub mod Examples
+pub mod Filters
+pub mod Footer
+pub mod Icon

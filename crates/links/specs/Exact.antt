@@ -1,0 +1,23 @@
+-- What is to be shown of the four rules, as types: document 01, module 4, "Prove that this is yes exactly when 5·links > text, or 5·links > 3·text."
+use mathlib.Core.Path.{_≡_}
+use mathlib.Core.Bool.{Bool, true}
+use mathlib.Core.List.{List, [], _∷_, map}
+use mathlib.Core.Logic.{_↔_}
+use Prim.Native.Nat.{ℕ, _*_, _≤_, _<_}
+use Rattle.links.specs.Links.{measureOf, exceeds, fifthOfAny, fifthOf500, threeFifthsOf800, threeFifthsOf1500}
+use Rattle.links.specs.declared.Rule.{Rule}
+
+-- counts that a sheet can have: it has at most 20,000 rows, each shows at most 4,194,304 bytes, and each is one link at most
+pub record Possible (total links : ℕ) : Type 0 where
+  pub total-most : total ≤ 20000 * 4194304
+  pub links-most : links ≤ 20000 * (20000 * 4194304)
+
+-- whether the measure says yes
+abbrev pub saysYes : Rule → ℕ → ℕ → Bool
+saysYes rule total links = exceeds rule (measureOf rule total links)
+
+pub record RulesAreExact : Type 0 where
+  pub fifth-of-any : (total links : ℕ) → Possible total links → (saysYes fifthOfAny total links ≡ true) ↔ ((0 < total) × (total < 5 * links))
+  pub fifth-of-500 : (total links : ℕ) → Possible total links → (saysYes fifthOf500 total links ≡ true) ↔ ((0 < total) × (total ≤ 500) × (total < 5 * links))
+  pub three-fifths-of-800 : (total links : ℕ) → Possible total links → (saysYes threeFifthsOf800 total links ≡ true) ↔ ((0 < total) × (total ≤ 800) × (3 * total < 5 * links))
+  pub three-fifths-of-1500 : (total links : ℕ) → Possible total links → (saysYes threeFifthsOf1500 total links ≡ true) ↔ ((0 < total) × (total ≤ 1500) × (3 * total < 5 * links))
