@@ -10,6 +10,7 @@ pub mod LostStrip
 pub mod MeasureLaws
 pub mod OffLaws
 pub mod OrLaws
+pub mod PageLaws
 pub mod RiseLaws
 pub mod RunLaws
 pub mod SaidLaws
