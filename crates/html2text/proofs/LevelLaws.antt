@@ -1,4 +1,4 @@
--- A step changes list depth, list levels and open rows by its node alone; what a pass without texts keeps is what the run with texts has.
+-- A step changes list depth, list levels and open rows by its node alone.
 use mathlib.Core.Path.{_≡_, refl, sym, ap, _∙_}
 use mathlib.Core.Bool.{Bool, true, false, _&&_, not, cond}
 use mathlib.Core.List.{List, [], _∷_, _++_}

@@ -1,3 +1,4 @@
+pub mod AlongLaws
 pub mod BlankRuns
 pub mod BoundLaws
 pub mod CollectLaws
@@ -10,6 +11,7 @@ pub mod LostStrip
 pub mod MeasureLaws
 pub mod OffLaws
 pub mod OrLaws
+pub mod PageBounds
 pub mod PageLaws
 pub mod RiseLaws
 pub mod RunLaws
