@@ -2,6 +2,7 @@ pub mod BlankRuns
 pub mod CollectLaws
 pub mod DemandLaws
 pub mod FurtherPieces
+pub mod LevelLaws
 pub mod LostStrip
 pub mod OffLaws
 pub mod OrLaws
