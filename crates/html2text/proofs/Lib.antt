@@ -6,6 +6,7 @@ pub mod LevelLaws
 pub mod LostStrip
 pub mod OffLaws
 pub mod OrLaws
+pub mod PageLaws
 pub mod RunLaws
 pub mod SaidLaws
 pub mod Standing
