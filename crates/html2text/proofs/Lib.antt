@@ -1,5 +1,7 @@
+pub mod AlikeSheets
 pub mod BlankRuns
 pub mod CollectLaws
+pub mod Demand3Laws
 pub mod DemandLaws
 pub mod FurtherPieces
 pub mod LevelLaws
