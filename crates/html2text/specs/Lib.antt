@@ -1,5 +1,6 @@
 pub mod Collect
 pub mod Demand
+pub mod Demand3
 pub mod Extract
 pub mod Fused
 pub mod Levels
