@@ -4,14 +4,9 @@ use mathlib.Core.Bool.{Bool, false}
 use Rattle.common.proofs.Choice.{by-cond}
 use Rattle.options.specs.declared.Formatting.{Formatting}
 use Rattle.html2text.specs.Collect.{Entry}
+use Rattle.html2text.specs.Bounds.{Going}
 use Rattle.html2text.specs.Extract.{Run, going, tooManyLevels, tooManyRows, passesLevels, passesRows, taken}
 use Rattle.html2text.specs.Serialize.{State, step}
-
--- where no entry was refused, P holds of the state
-abbrev pub Going : (State → Type 0) → Run → Type 0
-Going P (going S) = P S
-Going P (tooManyLevels line) = Unit {0}
-Going P (tooManyRows line) = Unit {0}
 
 pub going-at : (P : State → Type 0) {R : Run} {S : State} → Going P R → R ≡ going S → P S
 going-at P g e = subst (Going P) e g

@@ -1,5 +1,6 @@
 pub mod AlikeSheets
 pub mod BlankRuns
+pub mod BoundLaws
 pub mod CollectLaws
 pub mod Demand3Laws
 pub mod DemandLaws
@@ -17,4 +18,5 @@ pub mod RiseLaws
 pub mod RunLaws
 pub mod SaidLaws
 pub mod Standing
+pub mod StepBounds
 pub mod WalkLaws

@@ -12,6 +12,7 @@ use Rattle.options.specs.declared.ExtractOptions.{ExtractOptions}
 use Rattle.options.specs.declared.Formatting.{Formatting}
 use Rattle.writer.specs.Out.{Out, greater, pushAll}
 use Rattle.writer.proofs.OutLaws.{greater-max, push-all-text, push-all-peak}
+use Rattle.html2text.specs.Bounds.{Going}
 use Rattle.html2text.specs.Collect.{Event, Entry, tagNumber, pushedNode, marked, added}
 use Rattle.html2text.specs.Extract.{Run, going, tooManyLevels, tooManyRows, passesLevels, passesRows, lineOf, taken, serialized}
 use Rattle.html2text.specs.Fused.{Fused, idle, closed, openEntry, pushesOn, emptied, opened, grown, fed, fedAll}
@@ -19,7 +20,7 @@ use Rattle.html2text.specs.Levels.{counted, depthRefused, rowsRefused, d
 use Rattle.html2text.specs.Serialize.{State, step}
 use Rattle.html2text.proofs.FusionLaws.{fusion}
 use Rattle.html2text.proofs.LevelLaws.{step-levels}
-use Rattle.html2text.proofs.GoingLaws.{Going, going-at, going-taken}
+use Rattle.html2text.proofs.GoingLaws.{going-at, going-taken}
 
 pub levels-taken : (f : Formatting) (bullets : Bool) (e : Entry) (R : Run) → levelsOf (taken f bullets e R) ≡ levelsTaken f (lineOf e) (e .node) (levelsOf R)
 levels-taken f bullets e (going S) = go (passesLevels f (e .node) S) (passesRows (e .node) S)

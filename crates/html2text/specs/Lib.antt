@@ -1,3 +1,4 @@
+pub mod Bounds
 pub mod Collect
 pub mod Demand
 pub mod Demand3
