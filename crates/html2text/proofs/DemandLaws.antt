@@ -28,54 +28,67 @@ off-same o e =
     λ i. record { formatting = e i; «main_content» = o .«main_content»; «list_bullets» = o .«list_bullets»; «alt_texts» = o .«alt_texts»; links = o .links; «form_fields» = o .«form_fields»; comments = o .comments; «post_meta» = o .«post_meta»; «hidden_elements» = o .«hidden_elements»; icons = o .icons }
 
 -- t is the text of an extraction of the page
-pub record TextOf (filtered : ℕ → Bool) (o : ExtractOptions) (p : Page) (t : Bytes) : Type 0 where
+pub record TextOf (filtered : Page → ExtractOptions → ℕ → Bool) (p : Page) (o : ExtractOptions) (t : Bytes) : Type 0 where
   pub state : State
-  pub going-is : serialized o (entries filtered p o) ≡ going state
-  pub text-is : t ≡ finished state
+  pub run : serialized o (entries (filtered p o) p o) ≡ going state
+  pub text : t ≡ finished state
 
-module _ (filtered : ℕ → Bool) where
-  written : (o : ExtractOptions) (p : Page) (S : State) → serialized (off o) (entries filtered p (off o)) ≡ going S → Written (entries filtered p (off o)) S
-  written o p S e = serialized-off o (entries filtered p (off o)) S (plain-all o [] (events (p .node) (hidden filtered p o) 0 (treeOf p)) tt) e
+-- marked or filtered out in the second page: in the first, or a further mark
+marks-further : (m m′ f : Bool) → (m ≡ true → m′ ≡ true) → (m′ || f) ≡ ((m || f) || (m′ && not m))
+marks-further true m′ f h = ap (λ (b : Bool). b || f) (h refl)
+marks-further false true f h = sym (or-true f)
+marks-further false false true h = refl
+marks-further false false false h = refl
 
-  blanks-off : (o : ExtractOptions) (p : Page) (t : Bytes) → TextOf filtered (off o) p t → BlanksRight t
-  blanks-off o p t x = rw (x .text-is) (blanks-of-calm (x .state .out .text) (written o p (x .state) (x .going-is) .calm))
+module _ (filtered : Page → ExtractOptions → ℕ → Bool) (p : Page) where
+  abbrev hiddenRows : ExtractOptions → ℕ → Bool
+  hiddenRows o = hidden (filtered p o) p o
 
-  pieces-off : (o : ExtractOptions) (p : Page) (t : Bytes) → PageRight p → CellsRight p → TextOf filtered (off o) p t → struck t ≡ struckPieces (visiblePieces filtered p o)
-  pieces-off o p t right cells x =
-      ap struck (x .text-is)
+  written : (o : ExtractOptions) (S : State) → serialized (off o) (entries (filtered p (off o)) p (off o)) ≡ going S → Written (entries (filtered p (off o)) p (off o)) S
+  written o S e =
+      serialized-off o (entries (filtered p (off o)) p (off o)) S (plain-all o [] (events (p .node) (hiddenRows (off o)) 0 (treeOf p)) tt) e
+
+  blanks-off : (o : ExtractOptions) (t : Bytes) → TextOf filtered p (off o) t → BlanksRight t
+  blanks-off o t x = rw (x .text) (blanks-of-calm (x .state .out .text) (written o (x .state) (x .run) .calm))
+
+  pieces-off : (o : ExtractOptions) (t : Bytes) → PageRight p → CellsRight p → TextOf filtered p (off o) t → struck t ≡ struckPieces (visiblePieces filtered p (off o))
+  pieces-off o t right cells x =
+      let h = hiddenRows (off o) in
+      ap struck (x .text)
       ∙ struck-rstrip isSpace (x .state .out .text)
-      ∙ written o p (x .state) (x .going-is) .text
-      ∙ kept-pieces (p .node) (hidden filtered p o) o (treeOf p) (page-cells p (hidden filtered p o) (λ i e. or-left (p .marked i) (filtered i) e) cells) (page-parents p right)
+      ∙ written o (x .state) (x .run) .text
+      ∙ kept-pieces (p .node) h (off o) (treeOf p) (page-cells p h (λ i e. or-left (p .marked i) (filtered p (off o) i) e) cells) (page-parents p right)
 
-  pub blanks-right : (o : ExtractOptions) (p : Page) (t : Bytes) → o .formatting ≡ Off → TextOf filtered o p t → BlanksRight t
-  blanks-right o p t e x = blanks-off o p t (subst (λ (q : ExtractOptions). TextOf filtered q p t) (off-same o e) x)
+  module _ (o : ExtractOptions) (t : Bytes) (is-off : o .formatting ≡ Off) (x : TextOf filtered p o t) where
+    pub blanks-right : BlanksRight t
+    blanks-right = blanks-off o t (subst (λ (q : ExtractOptions). TextOf filtered p q t) (off-same o is-off) x)
 
-  pub text-is-pieces : (o : ExtractOptions) (p : Page) (t : Bytes) → o .formatting ≡ Off → PageRight p → CellsRight p → TextOf filtered o p t
-      → struck t ≡ struckPieces (visiblePieces filtered p o)
-  text-is-pieces o p t e right cells x =
-      pieces-off o p t right cells (subst (λ (q : ExtractOptions). TextOf filtered q p t) (off-same o e) x)
+    pub text-is-pieces : PageRight p → CellsRight p → struck t ≡ struckPieces (visiblePieces filtered p o)
+    text-is-pieces right cells =
+        let e = off-same o is-off in
+        subst (λ (q : ExtractOptions). struck t ≡ struckPieces (visiblePieces filtered p q)) (sym e)
+        (pieces-off o t right cells (subst (λ (q : ExtractOptions). TextOf filtered p q t) e x))
 
-  -- marked or filtered out in the second page: in the first, or a further mark
-  marks-further : (m m′ f : Bool) → (m ≡ true → m′ ≡ true) → (m′ || f) ≡ ((m || f) || (m′ && not m))
-  marks-further true m′ f h = ap (λ (b : Bool). b || f) (h refl)
-  marks-further false true f h = sym (or-true f)
-  marks-further false false true h = refl
-  marks-further false false false h = refl
+-- two pages that differ in marks, which the filters are blind to
+module _ (filtered : Page → ExtractOptions → ℕ → Bool) (o : ExtractOptions) (p₁ p₂ : Page) (marks : FurtherMarks p₁ p₂) (blind : filtered p₂ o ≡ filtered p₁ o) where
+  hidden-further : hidden (filtered p₂ o) p₂ o ≡ further (p₁ .node) (hidden (filtered p₁ o) p₁ o) (furtherMarked p₁ p₂) o
+  hidden-further =
+      fun-ext
+      (λ i. ap (λ (f : ℕ → Bool). p₂ .marked i || f i) blind ∙ marks-further (p₁ .marked i) (p₂ .marked i) (filtered p₁ o i) (marks .kept i))
 
-  hidden-further : (o : ExtractOptions) (p q : Page) → FurtherMarks p q → hidden filtered q o ≡ further (p .node) (hidden filtered p o) (furtherMarked p q) o
-  hidden-further o p q m = fun-ext (λ i. marks-further (p .marked i) (q .marked i) (filtered i) (m .kept i))
+  pieces-less : visiblePieces filtered p₂ o ≡ without (furtherMarked p₁ p₂) (visiblePieces filtered p₁ o)
+  pieces-less =
+      (λ i.
+      pieces (marks .node i) (hidden-further i) o []
+      (treeOf (record { depths = marks .depths i; node = marks .node i; marked = p₂ .marked; root = marks .root i })))
+      ∙ further-pieces (p₁ .node) (hidden (filtered p₁ o) p₁ o) (furtherMarked p₁ p₂) o (treeOf p₁) [] refl
 
-  pieces-less : (o : ExtractOptions) (p q : Page) → FurtherMarks p q → visiblePieces filtered q o ≡ without (furtherMarked p q) (visiblePieces filtered p o)
-  pieces-less o p q m =
-      (λ i. pieces (m .node i) (hidden-further o p q m i) o [] (treeOf (record { depths = m .depths i; node = m .node i; marked = q .marked; root = m .root i })))
-      ∙ further-pieces (p .node) (hidden filtered p o) (furtherMarked p q) o (treeOf p) [] refl
-
-  pub texts-are-pieces : (o : ExtractOptions) (p₁ p₂ : Page) (t₁ t₂ : Bytes) → o .formatting ≡ Off → PageRight p₁ → PageRight p₂ → FurtherMarks p₁ p₂
-      → CellsRight p₁ → CellsRight p₂ → TextOf filtered o p₁ t₁ → TextOf filtered o p₂ t₂ → TextsArePieces filtered o p₁ p₂ t₁ t₂
-  texts-are-pieces o p₁ p₂ t₁ t₂ e right₁ right₂ m cells₁ cells₂ x₁ x₂ =
-      let second = text-is-pieces o p₂ t₂ e right₂ cells₂ x₂ in
+  pub texts-are-pieces : (t₁ t₂ : Bytes) → o .formatting ≡ Off → PageRight p₁ → PageRight p₂ → CellsRight p₁ → CellsRight p₂ → TextOf filtered p₁ o t₁ → TextOf filtered p₂ o t₂
+      → TextsArePieces filtered o p₁ p₂ t₁ t₂
+  texts-are-pieces t₁ t₂ is-off right₁ right₂ cells₁ cells₂ x₁ x₂ =
+      let second = text-is-pieces filtered p₂ o t₂ is-off x₂ right₂ cells₂ in
       record {
-        first = text-is-pieces o p₁ t₁ e right₁ cells₁ x₁;
+        first = text-is-pieces filtered p₁ o t₁ is-off x₁ right₁ cells₁;
         second = second;
-        second-less = second ∙ ap struckPieces (pieces-less o p₁ p₂ m);
+        second-less = second ∙ ap struckPieces pieces-less;
       }

@@ -1,12 +1,15 @@
+pub mod AlikeSheets
 pub mod AlongLaws
 pub mod BlankRuns
 pub mod BoundLaws
 pub mod CollectLaws
+pub mod Demand3Laws
 pub mod DemandLaws
 pub mod FurtherPieces
 pub mod FusionLaws
 pub mod GoingLaws
 pub mod LevelLaws
+pub mod LevelMetLaws
 pub mod LostStrip
 pub mod MeasureLaws
 pub mod OffLaws
