@@ -1,1 +1,5 @@
+pub mod AttributeLaws
 pub mod ExampleLaws
+pub mod NameLaws
+pub mod TestLaws
+pub mod ValueLaws

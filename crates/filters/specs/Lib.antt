@@ -1,4 +1,5 @@
 pub mod Examples
 pub mod Filters
 pub mod Footer
+pub mod Gathered
 pub mod Icon
