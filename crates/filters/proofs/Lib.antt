@@ -1,4 +1,5 @@
 pub mod AttributeLaws
+pub mod ClassLaws
 pub mod ExampleLaws
 pub mod NameLaws
 pub mod TestLaws

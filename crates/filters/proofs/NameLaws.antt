@@ -17,11 +17,31 @@ use Rattle.filters.specs.Filters.{notBlock}
 use Rattle.filters.proofs.TestLaws.{or-no, and-no, and-yes}
 
 module _ (name : Bytes) {tag : ℕ} (tag-is : tag ≡ tagOf name) where
-  pub is-numbered : (n : ℕ) (w : Bytes) → tells (λ t. eqb t n) (w ∷ []) ≡ true → eqb tag n ≡ same name w
+  is-numbered : (n : ℕ) (w : Bytes) → tells (λ t. eqb t n) (w ∷ []) ≡ true → eqb tag n ≡ same name w
   is-numbered n w t = ap (λ (x : ℕ). eqb x n) tag-is ∙ told-one (λ t. eqb t n) w t name
 
-  pub are-numbered : (test : ℕ → Bool) (ws : List Bytes) → tells test ws ≡ true → test tag ≡ oneOf name ws
+  are-numbered : (test : ℕ → Bool) (ws : List Bytes) → tells test ws ≡ true → test tag ≡ oneOf name ws
   are-numbered test ws t = ap test tag-is ∙ told test ws t name
+
+  pub article-number : eqb tag 16 ≡ is name "article"
+  unfolding tagOf tagNames numberFrom words firstWord otherWords codes oneOf same
+  article-number = is-numbered 16 (codes "article") refl
+
+  pub a-div-or-li : (eqb tag 37 || (eqb tag 23 || eqb tag 5)) ≡ oneOf name (words "a div li")
+  unfolding tagOf tagNames numberFrom words firstWord otherWords codes oneOf same
+  a-div-or-li = are-numbered (λ t. eqb t 37 || (eqb t 23 || eqb t 5)) (words "a div li") refl
+
+  pub footer-number : eqb tag 28 ≡ is name "footer"
+  unfolding tagOf tagNames numberFrom words firstWord otherWords codes oneOf same
+  footer-number = is-numbered 28 (codes "footer") refl
+
+  pub ul-number : eqb tag 3 ≡ is name "ul"
+  unfolding tagOf tagNames numberFrom words firstWord otherWords codes oneOf same
+  ul-number = is-numbered 3 (codes "ul") refl
+
+  pub div-number : eqb tag 23 ≡ is name "div"
+  unfolding tagOf tagNames numberFrom words firstWord otherWords codes oneOf same
+  div-number = is-numbered 23 (codes "div") refl
 
   -- a name with another number is another name
   other : (w : Bytes) {n : ℕ} → n ≡ tagOf w → (tag ≡ n → ⊥) → same name w ≡ false

@@ -1,3 +1,4 @@
+pub mod Classes
 pub mod Examples
 pub mod Filters
 pub mod Footer
