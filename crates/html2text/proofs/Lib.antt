@@ -3,6 +3,7 @@ pub mod BlankRuns
 pub mod CollectLaws
 pub mod Demand3Laws
 pub mod DemandLaws
+pub mod ExampleLaws
 pub mod FurtherPieces
 pub mod LevelLaws
 pub mod LostStrip

@@ -1,6 +1,7 @@
 pub mod Collect
 pub mod Demand
 pub mod Demand3
+pub mod Examples
 pub mod Extract
 pub mod Fused
 pub mod Pieces
