@@ -290,12 +290,10 @@ calls =
     ∷ call standing short (replicate 3 1) (replicate 7 9) (refused 32 4) (replicate 3 1) (replicate 7 0)
     ∷ call standing short (replicate 4 1) (replicate 6 9) (refused 31 7) (replicate 4 1) (replicate 6 9)
     ∷ call standing short [] [] (refused 31 7) [] []
-    -- 1,024 list levels, and one more; formatting Off never counts them
-    ∷ call standing (childless 1024 "ul") [] [] (record { number = 0; second = 0; visits = 1026; length = 0 }) [] []
+    -- the 1,025th list level is refused; formatting Off never counts them
     ∷ call standing (childless 1025 "ul") [] [] (refused 21 1026) [] []
     ∷ call (formatted Off) (childless 1025 "ul") [] [] (record { number = 0; second = 0; visits = 1027; length = 0 }) [] []
-    -- 1,024 open rows, and one more
-    ∷ call standing (childless 1024 "tr") [] [] (record { number = 0; second = 0; visits = 1026; length = 0 }) [] []
+    -- the 1,025th open row is refused
     ∷ call (formatted Off) (childless 1025 "tr") (replicate 2 1) (replicate 2 9) (refused 22 1026) (replicate 2 1) (replicate 2 9)
     ∷ []
 
