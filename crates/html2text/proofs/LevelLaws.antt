@@ -1,341 +1,216 @@
--- Where formatting is not Off, `serialize` comes to every li with a list level open: the `expect` is never met without one.
+-- A step changes list depth, list levels and open rows by its node alone; what a pass without texts keeps is what the run with texts has.
 use mathlib.Core.Path.{_≡_, refl, sym, ap, _∙_}
-use mathlib.Core.Bool.{Bool, true, false, _&&_, _||_, not, cond}
+use mathlib.Core.Bool.{Bool, true, false, _&&_, not, cond}
 use mathlib.Core.List.{List, [], _∷_, _++_}
-use Prim.Native.Nat.{ℕ, zero, suc, _+_, _-_, _≤_}
-use native.Mathlib.Nat.{le-refl, le-trans}
+use Prim.Native.Nat.{ℕ, _+_, _-_}
 use native.Mathlib.Omega.{arith}
 use lib.Dec.{eqb, ltb}
-use lib.ListN.{length, getD, length-append, length-take, length-set}
+use lib.ListN.{length, getD, length-append, length-set, length-take}
 use borrow.Author.Tests.{eqb-true}
 use Rattle.common.specs.Bytes.{Bytes}
-use Rattle.common.proofs.Choice.{by-cond, by-test, absurd-test, and-parts}
+use Rattle.common.proofs.Choice.{by-cond, and-parts}
 use Rattle.options.specs.Options.{isOff}
-use Rattle.options.specs.declared.ExtractOptions.{ExtractOptions}
 use Rattle.options.specs.declared.Formatting.{Formatting}
 use Rattle.options.specs.declared.Formatting.the-variants.{Off, Basic, MinimalHtml}
-use Rattle.tags.specs.Tags.{isTr, isCell, isUl, isOl, isList, isLi, isPre, isBr, isBlockTag}
-use Rattle.tree.specs.Forest.{Forest, empty, node}
-use Rattle.tree.specs.Node.{Node}
-use Rattle.tree.specs.Page.{Page}
-use Rattle.html2text.specs.Collect.{Event, Entry, tagNumber, pushes, pushed, amended, onLast, collect, collectAll}
-use Rattle.html2text.specs.Extract.{going, serialized}
-use Rattle.html2text.specs.Serialize.{State, withPrefix, withBullet, withLevels, withMargins, withUncollapsed, one, pop, isEmpty, margin, rows, besideCell, inRow, cell, countUncollapsed, changesLevel, level, numberOf, numberText, item, htmlItem, htmlPre, htmlBr, htmlMarks, wantsTag, opensTag, tagMargins, beforeTag, htmlTag, blockAfterMarks, blockAfterTag, blockMargin, shortened, trims, collapses, indentText, lead, putText, afterBasic, finishHtml, afterHtml, stepBy, after, step}
-use Rattle.html2text.specs.Theorems.{LevelMet}
-use Rattle.html2text.specs.Walk.{hasTrees, leftOut, eventAt, events, treeOf}
+use Rattle.tags.specs.Tags.{isTr, isCell, isOl, isLi, isPre, isBr}
+use Rattle.html2text.specs.Levels.{recounted, rowsAfter, StepLevels}
+use Rattle.html2text.specs.Serialize.{State, one, withPrefix, withBullet, withLevels, withMargins, withRows, withUncollapsed, pop, isEmpty, collapses, margin, rows, besideCell, inRow, cell, countUncollapsed, changesLevel, level, numberOf, item, htmlItem, htmlPre, htmlBr, htmlMarks, wantsTag, opensTag, tagMargins, beforeTag, htmlTag, blockAfterMarks, blockAfterTag, blockMargin, trims, shortened, indentText, lead, putText, afterOff, afterBasic, finishHtml, afterHtml, stepBy, after, step}
 use Rattle.html2text.specs.declared.ExtractNode.{ExtractNode}
-use Rattle.html2text.proofs.CollectLaws.{collect-all-append, block-pushes}
-use Rattle.html2text.proofs.OrLaws.{or-cases}
-use Rattle.html2text.proofs.RunLaws.{serialized-from, serialized-start}
 
--- d levels are open
-record Level (d : ℕ) (S : State) : Type 0 where
-  depth : S .depth ≡ d
-  numbers : length (S .numbering) ≡ d
+-- ---- the three numbers of a state, and the parts of a step that change none of them
 
--- a state with the same levels
-same-level : {d : ℕ} (S T : State) → T .depth ≡ S .depth → T .numbering ≡ S .numbering → Level d S → Level d T
-same-level S T e f h = record { depth = e ∙ h .depth; numbers = ap length f ∙ h .numbers }
+record Counts : Type 0 where
+  depth : ℕ
+  levels : ℕ
+  rows : ℕ
 
--- ---- the functions that leave the levels as they are
+abbrev counts : State → Counts
+counts S = record { depth = S .depth; levels = length (S .numbering); rows = length (S .rowHasCell) }
 
-module _ (d : ℕ) where
-  -- either way
-  either : (b : Bool) {S T : State} → Level d S → Level d T → Level d (cond b S T)
-  either b h g = by-cond (Level d) b (λ e. h) (λ e. g)
+abbrev Same : State → State → Type 0
+Same S T = counts T ≡ counts S
 
-  level-margin : (bare off : Bool) (S : State) → Level d S → Level d (margin bare off S)
+abbrev Still : (State → State) → Type 0
+Still F = (S : State) → counts (F S) ≡ counts S
+
+module _ (bare off : Bool) where
+  still-margin : Still (margin bare off)
   unfolding margin
-  level-margin bare off S h = same-level S _ refl refl h
+  still-margin S = refl
 
-  level-rows : (n : ExtractNode) (S : State) → Level d S → Level d (rows n S)
-  unfolding rows
-  level-rows n S h = either (isTr (n .tag)) (either (n .end) (same-level S _ refl refl h) (same-level S _ refl refl h)) h
+module _ (off : Bool) where
+  still-beside : Still (besideCell off)
+  unfolding besideCell
+  still-beside S = by-cond (Same S) (getD (S .rowHasCell) (length (S .rowHasCell) - 1) false) (λ e. refl) (λ e. refl)
 
-  level-in-row : (off : Bool) (S : State) → Level d S → Level d (inRow off S)
-  unfolding inRow besideCell
-  level-in-row off S h =
+  still-in-row : Still (inRow off)
+  unfolding inRow
+  still-in-row S =
       let T = besideCell off S in
-      let g : Level d T = either (getD (S .rowHasCell) (length (S .rowHasCell) - 1) false) (same-level S _ refl refl h) h in
-      either (eqb (length (S .rowHasCell)) 0) h (same-level T _ refl refl g)
+      by-cond (Same S) (eqb (length (S .rowHasCell)) 0) (λ e. refl)
+      (λ e. (λ i. record { depth = T .depth; levels = length (T .numbering); rows = length-set (T .rowHasCell) (length (T .rowHasCell) - 1) true i }) ∙ still-beside S)
 
-  level-cell : (off : Bool) (n : ExtractNode) (S : State) → Level d S → Level d (cell off n S)
+module _ (bullets : Bool) (n : ExtractNode) where
+  still-cell : (off : Bool) → Still (cell off n)
   unfolding cell
-  level-cell off n S h = either (isCell (n .tag)) (level-in-row off (margin (collapses off n) off S) (level-margin (collapses off n) off S h)) h
+  still-cell off S = by-cond (Same S) (isCell (n .tag)) (λ e. still-in-row off (margin (collapses off n) off S) ∙ still-margin (collapses off n) off S) (λ e. refl)
 
-  level-uncollapsed : (n : ExtractNode) (S : State) → Level d S → Level d (countUncollapsed n S)
+  still-count : Still (countUncollapsed n)
   unfolding countUncollapsed
-  level-uncollapsed n S h = either (n .block && not (n .«collapse_margins»)) (same-level S _ refl refl h) h
+  still-count S = by-cond (Same S) (n .block && not (n .«collapse_margins»)) (λ e. refl) (λ e. refl)
 
-  level-item : (bullets : Bool) (n : ExtractNode) (S : State) → Level d S → Level d (item bullets n S)
+  still-item : Still (item bullets n)
   unfolding item
-  level-item bullets n S h =
-      either (bullets && isLi (n .tag))
-      (by-cond (λ (T : State). Level d (withBullet (not (n .end)) T)) (eqb (numberOf S) 0)
-      (λ e. same-level S _ refl refl h)
-      (λ e. by-cond (λ (T : State). Level d (withBullet (not (n .end)) (withPrefix (numberText (numberOf S)) T))) (n .end)
-      (λ e. same-level S _ refl refl h)
-      (λ e. record { depth = h .depth; numbers = length-set (S .numbering) (length (S .numbering) - 1) (numberOf S + 1) ∙ h .numbers })))
-      h
+  still-item S =
+      by-cond (Same S) (bullets && isLi (n .tag))
+      (λ e. by-cond (Same S) (eqb (numberOf S) 0) (λ z. refl)
+      (λ z. by-cond (Same S) (n .end) (λ d. refl)
+      (λ d i. record { depth = S .depth; levels = length-set (S .numbering) (length (S .numbering) - 1) (numberOf S + 1) i; rows = length (S .rowHasCell) })))
+      (λ e. refl)
 
-  level-html-item : (bullets : Bool) (n : ExtractNode) (S : State) → Level d S → Level d (htmlItem bullets n S)
+  still-html-item : Still (htmlItem bullets n)
   unfolding htmlItem
-  level-html-item bullets n S h =
-      let T = margin (collapses false n) false S in
-      either (bullets && isLi (n .tag)) (same-level T _ refl refl (level-margin (collapses false n) false S h)) h
+  still-html-item S = by-cond (Same S) (bullets && isLi (n .tag)) (λ e. still-margin (collapses false n) false S) (λ e. refl)
 
-  level-html-pre : (n : ExtractNode) (S : State) → Level d S → Level d (htmlPre n S)
+  still-html-pre : Still (htmlPre n)
   unfolding htmlPre
-  level-html-pre n S h =
-      let T = margin (collapses false n) false S in
-      either (isPre (n .tag)) (either (n .end) (same-level S _ refl refl h) (same-level T _ refl refl (level-margin (collapses false n) false S h))) h
+  still-html-pre S =
+      by-cond (Same S) (isPre (n .tag)) (λ e. by-cond (Same S) (n .end) (λ d. refl) (λ d. still-margin (collapses false n) false S)) (λ e. refl)
 
-  level-html-marks : (bullets : Bool) (n : ExtractNode) (S : State) → Level d S → Level d (htmlMarks bullets n S)
-  unfolding htmlMarks htmlBr
-  level-html-marks bullets n S h =
-      let T = htmlPre n (htmlItem bullets n S) in
-      let g = level-html-pre n (htmlItem bullets n S) (level-html-item bullets n S h) in
-      either (isBr (n .tag)) (same-level T _ refl refl g) g
+  still-html-br : Still (htmlBr n)
+  unfolding htmlBr
+  still-html-br S = by-cond (Same S) (isBr (n .tag)) (λ e. refl) (λ e. refl)
 
-  level-before-tag : (n : ExtractNode) (block : Bool) (S : State) → Level d S → Level d (beforeTag n block S)
-  unfolding beforeTag
-  level-before-tag n block S h =
-      let T = withMargins (tagMargins n block (S .margins)) S in
-      let U = margin (collapses false n) false T in
-      either (opensTag n (S .uncollapsed)) (same-level U _ refl refl (level-margin (collapses false n) false T (same-level S T refl refl h))) h
+  still-html-marks : Still (htmlMarks bullets n)
+  unfolding htmlMarks
+  still-html-marks S = still-html-br (htmlPre n (htmlItem bullets n S)) ∙ still-html-pre (htmlItem bullets n S) ∙ still-html-item S
 
-  level-html-tag : (bullets : Bool) (n : ExtractNode) (block : Bool) (S : State) → Level d S → Level d (htmlTag bullets n block S)
-  unfolding htmlTag
-  level-html-tag bullets n block S h =
-      let T = beforeTag n block S in
-      either (wantsTag bullets n) (same-level T _ refl refl (level-before-tag n block S h)) h
+  module _ (block : Bool) where
+    still-before-tag : Still (beforeTag n block)
+    unfolding beforeTag
+    still-before-tag S = by-cond (Same S) (opensTag n (S .uncollapsed)) (λ e. still-margin (collapses false n) false (withMargins (tagMargins n block (S .margins)) S)) (λ e. refl)
 
-  level-block : (block : Bool) (n : ExtractNode) (S : State) → Level d S → Level d (blockMargin block n S)
-  unfolding blockMargin
-  level-block block n S h = either block (same-level S _ refl refl h) h
+    still-html-tag : Still (htmlTag bullets n block)
+    unfolding htmlTag
+    still-html-tag S = by-cond (Same S) (wantsTag bullets n) (λ e. still-before-tag S) (λ e. refl)
 
-  level-lead : (basic bullets : Bool) (S : State) → Level d S → Level d (lead basic bullets S)
-  unfolding lead indentText
-  level-lead basic bullets S h =
-      let T = indentText basic bullets S in
-      same-level T _ refl refl (either (basic && ltb 0 (S .depth)) (same-level S _ refl refl h) h)
+    still-block : Still (blockMargin block n)
+    unfolding blockMargin
+    still-block S = by-cond (Same S) block (λ e. refl) (λ e. refl)
 
-  level-text : (off basic bullets : Bool) (n : ExtractNode) (block : Bool) (t : Bytes) (S : State) → Level d S → Level d (putText off basic bullets n block t S)
-  unfolding putText
-  level-text off basic bullets n block t S h =
-      let M = margin (collapses off n) off S in
-      let U = withUncollapsed 0 M in
-      let L = lead basic bullets U in
-      either (isEmpty (shortened (collapses off n) (trims block S) t)) h
-      (same-level L _ refl refl (level-lead basic bullets U (same-level M U refl refl (level-margin (collapses off n) off S h))))
+    module _ (off basic : Bool) (text : Bytes) where
+      still-indent : Still (indentText basic bullets)
+      unfolding indentText
+      still-indent S = by-cond (Same S) (basic && ltb 0 (S .depth)) (λ e. refl) (λ e. refl)
 
--- ---- the level after an entry
+      still-lead : Still (lead basic bullets)
+      unfolding lead
+      still-lead S = still-indent S
 
-abbrev raised : Bool → Bool → Bool → ℕ → ℕ
-raised list li end d = cond (list || (li && eqb d 0)) (cond end (d - 1) (d + 1)) d
+      still-text : Still (putText off basic bullets n block text)
+      unfolding putText
+      still-text S =
+          by-cond (Same S) (isEmpty (shortened (collapses off n) (trims block S) text)) (λ e. refl)
+          (λ e. still-lead (withUncollapsed 0 (margin (collapses off n) off S)) ∙ still-margin (collapses off n) off S)
 
-abbrev levelAfter : ℕ → Bool → ℕ → ℕ
-levelAfter t end d = raised (isList t) (isLi t) end d
+-- ---- rows and levels
 
-level-level : (d : ℕ) (n : ExtractNode) (S : State) → Level d S → Level (levelAfter (n .tag) (n .end) d) (level n S)
-unfolding level
-level-level d n S h =
-    rw (← h .depth)
-    (go (changesLevel (n .tag) (S .depth)) (n .end))
-  where
-    last : length (S .numbering) ≡ S .depth
-    last = h .numbers ∙ sym (h .depth)
+length-pop : {A : Type 0} (l : List A) → length (pop l) ≡ length l - 1
+length-pop l = omega (arith, length-take (length l - 1) l)
 
-    go : (b end : Bool)
-        → Level (cond b (cond end (S .depth - 1) (S .depth + 1)) (S .depth))
-        (cond b
-        (cond end (withPrefix [] (withBullet false (withLevels (S .depth - 1) (pop (S .numbering)) S))) (withLevels (S .depth + 1) (S .numbering ++ (one (isOl (n .tag)) ∷ [])) S))
-        S)
-    go true true = record { depth = refl; numbers = simp length-take (omega arith) }
-    go true false = record { depth = refl; numbers = simp length-append (omega arith) }
-    go false end = record { depth = refl; numbers = last }
+length-more : {A : Type 0} (l : List A) (a : A) → length (l ++ a ∷ []) ≡ length l + 1
+length-more l a = length-append l (a ∷ [])
 
-cell-level : (t d : ℕ) (end : Bool) → isCell t ≡ true → levelAfter t end d ≡ d
-cell-level t d end h = rw (eqb-true t 2 h)
+module _ (n : ExtractNode) where
+  rowed : Counts → Counts
+  rowed C = record { depth = C .depth; levels = C .levels; rows = rowsAfter n (C .rows) }
 
-level-after : (f : Formatting) (bullets : Bool) (n : ExtractNode) (t : Bytes) (d : ℕ) (S : State) → isOff f ≡ false → Level d S
-    → Level (levelAfter (n .tag) (n .end) d) (after f bullets n t S)
-unfolding afterBasic afterHtml finishHtml
-level-after Off bullets n t d S shows h = absurd-test refl shows
-level-after Basic bullets n t d S shows h =
-    let k = levelAfter (n .tag) (n .end) d in
-    let L = level n (countUncollapsed n S) in
-    let I = item bullets n L in
-    level-text k false true bullets n (n .block) t (blockMargin (n .block) n I)
-    (level-block k (n .block) n I (level-item k bullets n L (level-level d n (countUncollapsed n S) (level-uncollapsed d n S h))))
-level-after MinimalHtml bullets n t d S shows h =
-    let k = levelAfter (n .tag) (n .end) d in
-    let L = level n (countUncollapsed n S) in
-    let M = htmlMarks bullets n L in
-    let block = blockAfterTag bullets n (M .uncollapsed) in
-    let T = htmlTag bullets n (blockAfterMarks bullets n) M in
-    level-text k false false bullets n block t (blockMargin block n T)
-    (level-block k block n T
-    (level-html-tag k bullets n (blockAfterMarks bullets n) M
-    (level-html-marks k bullets n L (level-level d n (countUncollapsed n S) (level-uncollapsed d n S h)))))
-
-level-step : (f : Formatting) (bullets : Bool) (n : ExtractNode) (t : Bytes) (d : ℕ) (S : State) → isOff f ≡ false → Level d S
-    → Level (levelAfter (n .tag) (n .end) d) (step f bullets n t S)
-unfolding stepBy
-level-step f bullets n t d S shows h =
-    let r = level-rows d n S h in
-    by-cond (Level (levelAfter (n .tag) (n .end) d)) (isCell (n .tag) && n .end)
-    (λ e. rw (cell-level (n .tag) d (n .end) (and-parts (isCell (n .tag)) (n .end) e .0)) r)
-    (λ e. level-after f bullets n t d (cell (isOff f) n (rows n S)) shows (level-cell d (isOff f) n (rows n S) r))
-
--- ---- the level after all entries
-
-abbrev levelOf : List Entry → ℕ
-levelOf [] = 0
-levelOf (e ∷ before) = levelAfter (e .node .tag) (e .node .end) (levelOf before)
-
--- an li's end finds a level
-abbrev Held : List Entry → Type 0
-Held [] = Unit {0}
-Held (e ∷ before) = (isLi (e .node .tag) ≡ true → e .node .end ≡ true → 1 ≤ levelOf before) × Held before
-
-held-at : (later before : List Entry) → Held (later ++ before) → Held before
-held-at [] before h = h
-held-at (e ∷ later) before h = held-at later before (h .1)
-
--- ---- along the walk
-
-list-blocks : (t d : ℕ) → changesLevel t d ≡ true → isBlockTag t ≡ true
-list-blocks t d =
-    or-cases (isList t) (isLi t && eqb d 0)
-    (or-cases (isUl t) (isOl t) (λ e. ap isBlockTag (eqb-true t 3 e)) (λ e. ap isBlockTag (eqb-true t 4 e)))
-    (λ e. ap isBlockTag (eqb-true t 5 (and-parts (isLi t) (eqb d 0) e .0)))
-
-start-up : (list li : Bool) (d : ℕ) → d ≤ raised list li false d
-start-up list li d = by-cond (λ (k : ℕ). d ≤ k) (list || (li && eqb d 0)) (λ e. omega arith) (λ e. le-refl d)
-
-not-zero : (d : ℕ) → eqb d 0 ≡ false → 1 ≤ d
-not-zero zero e = absurd-test refl e
-not-zero (suc d) e = omega arith
-
-start-li : (list : Bool) (d : ℕ) → 1 ≤ raised list true false d
-start-li true d = omega arith
-start-li false d = by-cond (λ (k : ℕ). 1 ≤ k) (eqb d 0) (λ e. omega arith) (not-zero d)
-
-end-up : (list li : Bool) (d m : ℕ) → raised list li false d ≤ m → d ≤ raised list li true m
-end-up true li d m h = omega arith
-end-up false false d m h = h
-end-up false true d m h =
-    by-cond (λ (k : ℕ). d ≤ k) (eqb m 0) (λ e. absurd (omega (arith, start-li false d, eqb-true m 0 e))) (λ e. le-trans (start-up false true d) h)
-
-li-level : (t d : ℕ) (end : Bool) → isLi t ≡ true → (end ≡ true → 1 ≤ d) → 1 ≤ levelAfter t end d
-li-level t d false l h = rw (eqb-true t 5 l) (start-li false d)
-li-level t d true l h = rw (eqb-true t 5 l) (by-cond (λ (k : ℕ). 1 ≤ k) (eqb d 0) (λ e. absurd (omega (arith, h refl, eqb-true d 0 e))) (λ e. h refl))
-
-module _ (o : ExtractOptions) where
-  collect-level : (es : List Entry) (e : Event) → levelOf (collect o es e) ≡ levelAfter (tagNumber (e .node)) (e .end) (levelOf es)
-  unfolding collect
-  collect-level es e = go (pushes o es e) refl es refl
+  counts-rows : (S : State) → counts (rows n S) ≡ rowed (counts S)
+  unfolding rows rowed
+  counts-rows S = go (isTr (n .tag)) (n .end)
     where
-      t : ℕ
-      t = tagNumber (e .node)
+      go : (b d : Bool) → counts (cond b (cond d (withRows (pop (S .rowHasCell)) S) (withRows (S .rowHasCell ++ (false ∷ [])) S)) S)
+          ≡ record { depth = S .depth; levels = length (S .numbering); rows = recounted b d (length (S .rowHasCell)) }
+      go true true = λ i. record { depth = S .depth; levels = length (S .numbering); rows = length-pop (S .rowHasCell) i }
+      go true false = λ i. record { depth = S .depth; levels = length (S .numbering); rows = length-more (S .rowHasCell) false i }
+      go false d = refl
 
-      stays : (d : ℕ) → pushes o es e ≡ false → levelAfter t (e .end) d ≡ d
-      stays d q = by-test (changesLevel t d) (λ c. absurd-test (block-pushes o es e (list-blocks t d c)) q) (λ c. rw c)
+  -- the numbers after an entry, where `on` says whether list levels count
+  levelled : Bool → Counts → Counts
+  levelled on C =
+      let b = on && changesLevel (n .tag) (C .depth) in
+      record { depth = recounted b (n .end) (C .depth); levels = recounted b (n .end) (C .levels); rows = C .rows }
 
-      go : (b : Bool) → pushes o es e ≡ b → (ns : List Entry) → ns ≡ es → levelOf (onLast (amended o e) (cond b (pushed o ns e ∷ ns) ns)) ≡ levelAfter t (e .end) (levelOf ns)
-      go true q ns s = refl
-      go false q [] s = sym (stays 0 q)
-      go false q (n ∷ ns) s = sym (stays (levelOf (n ∷ ns)) q)
-
-  held-collect : (es : List Entry) (e : Event) → Held es → (isLi (tagNumber (e .node)) ≡ true → e .end ≡ true → 1 ≤ levelOf es) → Held (collect o es e)
-  unfolding collect
-  held-collect es e h l = by-cond (λ (ns : List Entry). Held (onLast (amended o e) ns)) (pushes o es e) (λ q. (l, h)) (λ q. stayed es h)
+  counts-level : (S : State) → counts (level n S) ≡ levelled true (counts S)
+  unfolding level levelled
+  counts-level S = go (changesLevel (n .tag) (S .depth)) (n .end)
     where
-      stayed : (ns : List Entry) → Held ns → Held (onLast (amended o e) ns)
-      stayed [] g = tt
-      stayed (n ∷ ns) g = g
+      go : (b d : Bool) → counts (cond b (cond d (withPrefix [] (withBullet false (withLevels (S .depth - 1) (pop (S .numbering)) S))) (withLevels (S .depth + 1) (S .numbering ++ (one (isOl (n .tag)) ∷ [])) S)) S)
+          ≡ record { depth = recounted b d (S .depth); levels = recounted b d (length (S .numbering)); rows = length (S .rowHasCell) }
+      go true true = λ i. record { depth = S .depth - 1; levels = length-pop (S .numbering) i; rows = length (S .rowHasCell) }
+      go true false = λ i. record { depth = S .depth + 1; levels = length-more (S .numbering) (one (isOl (n .tag))) i; rows = length (S .rowHasCell) }
+      go false d = refl
 
-  record Rises (es es′ : List Entry) : Type 0 where
-    held : Held es′
-    up : levelOf es ≤ levelOf es′
+  -- a cell's end changes no level
+  levelled-cell : (isCell (n .tag) && n .end) ≡ true → (on : Bool) (C : Counts) → levelled on C ≡ C
+  unfolding levelled
+  levelled-cell e on C = let t : changesLevel (n .tag) (C .depth) ≡ false = rw (eqb-true (n .tag) 2 (and-parts (isCell (n .tag)) (n .end) e .0)) refl in go on (changesLevel (n .tag) (C .depth)) t
+    where
+      go : (on b : Bool) → b ≡ false → _≡_ {A = Counts} (record { depth = recounted (on && b) (n .end) (C .depth); levels = recounted (on && b) (n .end) (C .levels); rows = C .rows }) C
+      go true b t = rw t
+      go false b t = refl
 
-  rises-then : {a b c : List Entry} → Rises a b → Rises b c → Rises a c
-  rises-then x y = record { held = y .held; up = le-trans (x .up) (y .up) }
+  -- ---- the step
 
-  module _ (nodeOf : ℕ → Node) (hidden : ℕ → Bool) where
-    abbrev tagAt : ℕ → ℕ
-    tagAt i = tagNumber (nodeOf i)
+  module _ (bullets : Bool) (text : Bytes) where
+    counts-off : (S : State) → counts (afterOff bullets n text S) ≡ levelled false (counts S)
+    unfolding afterOff levelled
+    counts-off S = still-text bullets n (n .block) true false text (blockMargin (n .block) n S) ∙ still-block bullets n (n .block) S
 
-    begin-rises : (es : List Entry) (i : ℕ) (children : Bool) (d : ℕ) → Held es → Rises es (collect o es (eventAt nodeOf hidden i children d false))
-    begin-rises es i children d h =
-        let e = eventAt nodeOf hidden i children d false in
+    counts-basic : (S : State) → counts (afterBasic bullets n text S) ≡ levelled true (counts S)
+    unfolding afterBasic
+    counts-basic S =
+        let T = countUncollapsed n S in
+        let U = item bullets n (level n T) in
+        still-text bullets n (n .block) false true text (blockMargin (n .block) n U)
+        ∙ still-block bullets n (n .block) U
+        ∙ still-item bullets n (level n T)
+        ∙ counts-level T
+        ∙ ap (levelled true) (still-count bullets n S)
+
+    counts-html : (S : State) → counts (afterHtml bullets n text S) ≡ levelled true (counts S)
+    unfolding afterHtml finishHtml
+    counts-html S =
+        let T = countUncollapsed n S in
+        let U = htmlMarks bullets n (level n T) in
+        let block = blockAfterTag bullets n (U .uncollapsed) in
+        let W = htmlTag bullets n (blockAfterMarks bullets n) U in
+        still-text bullets n block false false text (blockMargin block n W)
+        ∙ still-block bullets n block W
+        ∙ still-html-tag bullets n (blockAfterMarks bullets n) U
+        ∙ still-html-marks bullets n (level n T)
+        ∙ counts-level T
+        ∙ ap (levelled true) (still-count bullets n S)
+
+    counts-after : (f : Formatting) (S : State) → counts (after f bullets n text S) ≡ levelled (not (isOff f)) (counts S)
+    counts-after Off = counts-off
+    counts-after Basic = counts-basic
+    counts-after MinimalHtml = counts-html
+
+    counts-step : (f : Formatting) (S : State) → counts (step f bullets n text S) ≡ levelled (not (isOff f)) (rowed (counts S))
+    unfolding stepBy
+    counts-step f S =
+        let off = isOff f in
+        by-cond (λ (T : State). counts T ≡ levelled (not off) (rowed (counts S))) (isCell (n .tag) && n .end)
+        (λ e. counts-rows S ∙ sym (levelled-cell e (not off) (rowed (counts S))))
+        (λ e. counts-after f (cell off n (rows n S)) ∙ ap (levelled (not off)) (still-cell bullets n off (rows n S) ∙ counts-rows S))
+
+    pub step-levels : (f : Formatting) (S : State) → StepLevels f bullets n text S
+    unfolding levelled rowed
+    step-levels f S =
+        let q = counts-step f S in
         record {
-          held = held-collect es e h (λ l q. absurd-test q refl);
-          up = rw (collect-level es e) (start-up (isList (tagAt i)) (isLi (tagAt i)) (levelOf es));
+          depth = ap (λ (C : Counts). C .depth) q;
+          rows = ap (λ (C : Counts). C .rows) q;
+          numbering = λ e. ap (λ (C : Counts). C .depth) q ∙ ap (recounted (not (isOff f) && changesLevel (n .tag) (S .depth)) (n .end)) e ∙ sym (ap (λ (C : Counts). C .levels) q);
         }
-
-    -- a row with children, K between its two events
-    entered-rises : (es : List Entry) (i d : ℕ) (K : List Event) → Held es → ((ns : List Entry) → Held ns → Rises ns (collectAll o ns K))
-        → Rises es (collectAll o es (eventAt nodeOf hidden i true d false ∷ (K ++ (eventAt nodeOf hidden i true d true ∷ []))))
-    unfolding collectAll
-    entered-rises es i d K h below =
-        let s = eventAt nodeOf hidden i true d false in
-        let e = eventAt nodeOf hidden i true d true in
-        let list = isList (tagAt i) in
-        let li = isLi (tagAt i) in
-        let es₁ = collect o es s in
-        let es₂ = collectAll o es₁ K in
-        let r = below es₁ (begin-rises es i true d h .held) in
-        let low : raised list li false (levelOf es) ≤ levelOf es₂ = rw (collect-level es s) at (r .up) in
-        let some-level : li ≡ true → 1 ≤ levelOf es₂ = λ l. le-trans (start-li list (levelOf es)) (rw l at low) in
-        rw (collect-all-append o es₁ K (e ∷ []))
-        (record {
-          held = held-collect es₂ e (r .held) (λ l q. some-level l);
-          up = rw (collect-level es₂ e) (end-up list li (levelOf es) (levelOf es₂) low);
-        })
-
-    row-rises : (children : Forest ℕ) (es : List Entry) (i d : ℕ) → Held es → ((ns : List Entry) → Held ns → Rises ns (collectAll o ns (events nodeOf hidden (suc d) children)))
-        → Rises es
-        (collectAll o es
-        (eventAt nodeOf hidden i (hasTrees children) d false
-        ∷ (events nodeOf hidden (suc d) children ++ cond (hasTrees children) (eventAt nodeOf hidden i true d true ∷ []) [])))
-    unfolding collectAll events
-    row-rises empty es i d h below = begin-rises es i false d h
-    row-rises (node j c r) es i d h below = entered-rises es i d (events nodeOf hidden (suc d) (node j c r)) h below
-
-    forest-rises : (f : Forest ℕ) (es : List Entry) (d : ℕ) → Held es → Rises es (collectAll o es (events nodeOf hidden d f))
-    unfolding collectAll events
-    forest-rises empty es d h = record { held = h; up = le-refl (levelOf es) }
-    forest-rises (node i children rest) es d h =
-        go (leftOut nodeOf hidden i) (λ ns g. forest-rises children ns (suc d) g) (λ ns g. forest-rises rest ns d g)
-      where
-        E : List Event
-        E =
-            eventAt nodeOf hidden i (hasTrees children) d false
-            ∷ (events nodeOf hidden (suc d) children ++ cond (hasTrees children) (eventAt nodeOf hidden i true d true ∷ []) [])
-
-        go : (b : Bool) → ((ns : List Entry) → Held ns → Rises ns (collectAll o ns (events nodeOf hidden (suc d) children)))
-            → ((ns : List Entry) → Held ns → Rises ns (collectAll o ns (events nodeOf hidden d rest)))
-            → Rises es (collectAll o es (cond b [] E ++ events nodeOf hidden d rest))
-        go true below later = later es h
-        go false below later =
-            let x = row-rises children es i d h below in
-            rw (collect-all-append o es E (events nodeOf hidden d rest)) (rises-then x (later (collectAll o es E) (x .held)))
-
-  module _ (shows : isOff (o .formatting) ≡ false) where
-    level-serialized : (es : List Entry) (S : State) → serialized o es ≡ going S → Level (levelOf es) S
-    level-serialized [] S e = rw (serialized-start o S e) (record { depth = refl; numbers = refl })
-    level-serialized (n ∷ es) S e =
-        let f = serialized-from o n es S e in
-        rw (f .after)
-        (level-step (o .formatting) (o .«list_bullets») (n .node) (n .text) (levelOf es) (f .state) shows (level-serialized es (f .state) (f .before)))
-
-pub level-met : (p : Page) (hidden : ℕ → Bool) (o : ExtractOptions) → LevelMet p hidden o
-level-met p hidden o = record {
-  met = λ later before e S split shows going-is li.
-      let held : Held (later ++ (e ∷ before)) = rw split at (forest-rises o (p .node) hidden (treeOf p) [] 0 tt .held) in
-      let h = level-serialized o shows before S going-is in
-      let x = level-level (levelOf before) (e .node) (countUncollapsed (e .node) S) (level-uncollapsed (levelOf before) (e .node) S h) in
-      omega (arith, x .numbers, li-level (e .node .tag) (levelOf before) (e .node .end) li (held-at later (e ∷ before) held .0 li));
-}
