@@ -5,6 +5,7 @@ pub mod BoundLaws
 pub mod CollectLaws
 pub mod Demand3Laws
 pub mod DemandLaws
+pub mod ExampleLaws
 pub mod FurtherPieces
 pub mod FusionLaws
 pub mod GoingLaws

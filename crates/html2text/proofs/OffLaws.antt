@@ -116,13 +116,17 @@ adds-then {S} {T} {U} {w} a b = record {
   prefix = b .prefix ∙ a .prefix;
 }
 
+-- blanks at the end go before every margin, and texts are collapsed
+squeezes : (n : ExtractNode) → collapses true n ≡ true
+squeezes n = or-true (eqb (n .«pre_depth») 0)
+
 adds-margin : (n : ExtractNode) (S : State) → Adds S (margin (collapses true n) true S) []
 unfolding margin
-adds-margin n S = rw (or-true (eqb (n .«pre_depth») 0)) (adds-none S _ (parted (S .margins) (S .out) .same) refl)
+adds-margin n S = rw (squeezes n) (adds-none S _ (parted (S .margins) (S .out) .same) refl)
 
 last-margin : (n : ExtractNode) (S : State) → run 0 (S .out .text) ≡ 0 → OneLast (margin (collapses true n) true S .out)
 unfolding margin
-last-margin n S h = rw (or-true (eqb (n .«pre_depth») 0)) (parted (S .margins) (S .out) .last h)
+last-margin n S h = rw (squeezes n) (parted (S .margins) (S .out) .last h)
 
 adds-rows : (n : ExtractNode) (S : State) → Adds S (rows n S) []
 unfolding rows
@@ -154,9 +158,6 @@ unfolding blockMargin
 block-out n S = by-cond (λ (T : State). (T .out ≡ S .out) × (T .prefix ≡ S .prefix)) (n .block) (λ e. (refl, refl)) (λ e. (refl, refl))
 
 -- ---- the text of an entry
-
-squeezes : (n : ExtractNode) → collapses true n ≡ true
-squeezes n = or-true (eqb (n .«pre_depth») 0)
 
 struck-shortened : (squeeze trim : Bool) (t : Bytes) → squeeze ≡ true → struck (shortened squeeze trim t) ≡ struck t
 struck-shortened squeeze true t e = rw e (struck-trim-start isSpace (collapse t) ∙ struck-collapse isSpace (space-32 0x20 refl) t)
