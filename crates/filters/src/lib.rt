@@ -1,1 +1,5 @@
 // Which rows are main content (`is_main_content` of filters.rs).
+pub mod attributes;
+pub mod classes;
+pub mod names;
+pub mod values;
