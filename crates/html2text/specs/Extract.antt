@@ -83,6 +83,9 @@ unfoldable pub longestNames : (ℕ → Node) → ℕ → ℕ
 longestNames nodeOf zero = 0
 longestNames nodeOf (suc k) = greater (longestNames nodeOf k) (namesLength (nodeOf k))
 
+abbrev pub workNeedOf : Page → ExtractOptions → List Entry → ℕ
+workNeedOf p o nodes = greater (longestText nodes) (cond (o .«main_content») (longestNames (p .node) (length (p .depths))) 0)
+
 -- ---- "The caller's 31 is tested after 21 and 22, 32 after 31."
 
 module _ (need passes : ℕ) where
@@ -119,7 +122,7 @@ module _ (filtered : ℕ → Bool) (p : Page) (o : ExtractOptions) where
   passes = visits (p .node) hidden (treeOf p)
 
   abbrev pub workNeed : ℕ
-  workNeed = greater (longestText entries) (cond (o .«main_content») (longestNames (p .node) (length (p .depths))) 0)
+  workNeed = workNeedOf p o entries
 
   unfoldable pub extraction : ℕ → ℕ → Extraction
   extraction out work = concluded workNeed passes (serialized o entries) out work
