@@ -34,12 +34,18 @@ pub data Run : Type 0 where
   tooManyRows : ℕ → Run
 
 -- "21: list depth would pass 1,024. Formatting Off never counts it."
+abbrev pub depthPasses : Formatting → ExtractNode → ℕ → Bool
+depthPasses f n depth = not (isOff f) && (not (n .end) && (changesLevel (n .tag) depth && leb 1024 depth))
+
 abbrev pub passesLevels : Formatting → ExtractNode → State → Bool
-passesLevels f n S = not (isOff f) && (not (n .end) && (changesLevel (n .tag) (S .depth) && leb 1024 (S .depth)))
+passesLevels f n S = depthPasses f n (S .depth)
 
 -- "22: open table rows would pass 1,024."
+abbrev pub rowsPass : ExtractNode → ℕ → Bool
+rowsPass n rows = isTr (n .tag) && (not (n .end) && leb 1024 rows)
+
 abbrev pub passesRows : ExtractNode → State → Bool
-passesRows n S = isTr (n .tag) && (not (n .end) && leb 1024 (length (S .rowHasCell)))
+passesRows n S = rowsPass n (length (S .rowHasCell))
 
 -- "second number: the node's line"; the header is line 0
 abbrev pub lineOf : Entry → ℕ
