@@ -1,0 +1,5 @@
+pub mod Advancing
+pub mod Forests
+pub mod TurnLaws
+pub mod RowLaws
+pub mod WalkLaws
