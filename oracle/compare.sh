@@ -5,6 +5,7 @@
 # The reader is target/staticlib/libreader.a (rt staticlib reader). READER=reference takes oracle/reference.py in its place,
 # READER=stand-in the Rust behind the C function that oracle/driver.c calls.
 # CASES=FILE: those cases, and no generated ones.
+# NEEDS=1: the numbers of 31 and 32 are compared too, with oracle/reference.py's.
 set -eu
 sources=$(realpath "$1")
 count=${2:-200000} seed=${3:-1} from=${4:-0}
@@ -29,6 +30,10 @@ compared() {
     $reader < "$1" > "$made/by_reader"
     cmp -s "$made/by_rust" "$made/by_reader" ||
         python3 oracle/difference.py "$1" "$made/by_rust" "$made/by_reader" "$rust run" "$reader"
+    if [ -n "${NEEDS:-}" ]; then
+        $reader --needs < "$1" > "$made/by_reader"
+        python3 oracle/reference.py --needs < "$1" | cmp - "$made/by_reader"
+    fi
 }
 if [ -n "${CASES:-}" ]; then
     compared "$(cd "$here" && realpath "$CASES")"

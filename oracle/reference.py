@@ -5,6 +5,7 @@ Rust. The patterns are read from crates/patterns/specs/Patterns.antt.
 
 Use: reference.py [--out N] [--work N] [--laws] < cases > answers      (cases and answers as in oracle/rust/src/cases.rs)
 --out, --work: the lengths of the lent buffers (none: long enough). --laws: the theorems on pages are tried on each case too.
+reference.py --needs < cases: the numbers of each without buffers, and with the work that is needed (as oracle/driver.c has it).
 Sheets must be accepted ones."""
 import os
 import re
@@ -1092,6 +1093,13 @@ def answer(case, out=None, work=None, laws=False):
     return said + text + b"\n" if numbers[0] == 0 else said
 
 
+def needs(case):
+    first = second = answer(case, 0, 0)[:33]
+    if int(first[:8]) == 31:
+        second = answer(case, 0, int(first[8:16]))[:33]
+    return first + second
+
+
 def main():
     args = sys.argv[1:]
     length = lambda name: int(args[args.index(name) + 1]) if name in args else None
@@ -1100,7 +1108,8 @@ def main():
         head = cases.read(9)
         if not head:
             break
-        answers.write(answer(cases.read(int(head)), length("--out"), length("--work"), "--laws" in args))
+        case = cases.read(int(head))
+        answers.write(needs(case) if "--needs" in args else answer(case, length("--out"), length("--work"), "--laws" in args))
 
 
 if __name__ == "__main__":

@@ -1,4 +1,4 @@
-//! The Rust behind the C function that oracle/driver.c calls, for trying the driver and the benchmark without the reader.
+//! The Rust behind a C function like the reader's (oracle/driver.c), for trying the driver and the benchmark without the reader.
 //! It reads the sheet, builds the tree and extracts; it knows no 21, 22 or 31, and of 32 only the length of the text.
 
 use crate::cases;
@@ -7,7 +7,7 @@ use crate::sheet;
 /// # Safety
 /// Each pointer is the start of so many bytes (numbers), of which `out` and `answer` may be written.
 #[unsafe(no_mangle)]
-pub unsafe extern "C" fn reader_extract(
+pub unsafe extern "C" fn stand_in_extract(
     sheet_at: *const u8,
     sheet_len: usize,
     options_at: *const u8,
