@@ -4,7 +4,8 @@
 # Use: oracle/compare.sh FOLDER-OF-html2text.rs-AND-filters.rs [COUNT [SEED [FROM]]]      (200000, 1, 0)
 # The reader is target/staticlib/libreader.a (rt staticlib reader). READER=reference takes oracle/reference.py in its place,
 # READER=stand-in the Rust behind the C function that oracle/driver.c calls.
-# CASES=FILE: those cases, and no generated ones.
+# SMALL=1: all small pages in the place of generated ones, COUNT of them from FROM on (there are 112,723).
+# CASES=FILE: those cases, and no others.
 # NEEDS=1: the numbers of 31 and 32 are compared too, with oracle/reference.py's.
 set -eu
 sources=$(realpath "$1")
@@ -25,14 +26,16 @@ reader)
     reader=$made/driver
     ;;
 esac
+kept=$(mktemp -d "$made/compare.XXXXXX")
+trap 'rm -rf "$kept"' EXIT
 compared() {
-    "$rust" run < "$1" > "$made/by_rust"
-    $reader < "$1" > "$made/by_reader"
-    cmp -s "$made/by_rust" "$made/by_reader" ||
-        python3 oracle/difference.py "$1" "$made/by_rust" "$made/by_reader" "$rust run" "$reader"
+    "$rust" run < "$1" > "$kept/by_rust"
+    $reader < "$1" > "$kept/by_reader"
+    cmp -s "$kept/by_rust" "$kept/by_reader" ||
+        python3 oracle/difference.py "$1" "$kept/by_rust" "$kept/by_reader" "$rust run" "$reader" "$made/difference"
     if [ -n "${NEEDS:-}" ]; then
-        $reader --needs < "$1" > "$made/by_reader"
-        python3 oracle/reference.py --needs < "$1" | cmp - "$made/by_reader"
+        $reader --needs < "$1" > "$kept/by_reader"
+        python3 oracle/reference.py --needs < "$1" | cmp - "$kept/by_reader"
     fi
 }
 if [ -n "${CASES:-}" ]; then
@@ -40,11 +43,15 @@ if [ -n "${CASES:-}" ]; then
     echo "no difference"
     exit
 fi
-done=0
-while [ "$done" -lt "$count" ]; do
-    part=$((count - done < 10000 ? count - done : 10000))
-    "$rust" generate "$seed" $((from + done)) "$part" > "$made/cases"
-    compared "$made/cases"
-    done=$((done + part))
+so_far=0
+while [ "$so_far" -lt "$count" ]; do
+    part=$((count - so_far < 10000 ? count - so_far : 10000))
+    if [ -n "${SMALL:-}" ]; then
+        "$rust" small $((from + so_far)) "$part" > "$kept/cases"
+    else
+        "$rust" generate "$seed" $((from + so_far)) "$part" > "$kept/cases"
+    fi
+    compared "$kept/cases"
+    so_far=$((so_far + part))
 done
 echo "$count cases, no difference"

@@ -782,6 +782,18 @@ fn open_rows(random: &mut Random) -> Vec<Tree> {
     trees
 }
 
+/// All small pages: those of one and two rows below body under 48 option lines, then those of three rows under one each.
+pub fn small_cases() -> usize {
+    48 * (pages_of(1) + pages_of(2)) + pages_of(3)
+}
+
+pub fn small_case(k: usize) -> Vec<u8> {
+    let smaller = small_cases() - pages_of(3);
+    let (options, trees) = if k < smaller { smallest(k) } else { (option_line(k * 7919 % 768), small_page(3, k - smaller)) };
+    let sheet = sheet_of(&mut Random(k as u64), Layout::Apart, Root::Body, &plain("body", trees));
+    [&options[..], &sheet].concat()
+}
+
 // ---- cases
 
 /// Case `number`: an option line and a sheet.
