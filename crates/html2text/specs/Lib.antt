@@ -1,7 +1,10 @@
+pub mod Bounds
 pub mod Collect
 pub mod Demand
+pub mod Demand3
 pub mod Extract
 pub mod Fused
+pub mod Levels
 pub mod Pieces
 pub mod Serialize
 pub mod Theorems

@@ -13,10 +13,10 @@ use Rattle.tags.specs.Words.{words, firstWord, otherWords, is, oneOf, nu
 use Rattle.tags.proofs.WordLaws.{each, each-at, no-number, one-word, by-words}
 
 -- all names that have a number
-abbrev known : List Bytes
+abbrev pub known : List Bytes
 known = codes "th" ∷ tagNames
 
-unknown : (name : Bytes) → oneOf name known ≡ false → tagOf name ≡ 0
+pub unknown : (name : Bytes) → oneOf name known ≡ false → tagOf name ≡ 0
 unfolding tagOf oneOf
 unknown name h =
     by-test (is name "th")

@@ -31,6 +31,14 @@ no-number n s (w ∷ ws) h =
     (λ e. absurd-test (rw (e, oneOf)) h)
     (λ e. rw (e, numberFrom) (no-number (n + 1) s ws (rw (e, oneOf) at h)))
 
+pub none-of : (s w : Bytes) (ws : List Bytes) → same s w ≡ false → oneOf s ws ≡ false → oneOf s (w ∷ ws) ≡ false
+unfolding oneOf
+none-of s w ws e h = rw (e, oneOf) h
+
+pub none-of-none : (s : Bytes) → oneOf s [] ≡ false
+unfolding oneOf
+none-of-none s = refl
+
 -- one word is a list of one word
 pub one-word : (s w : Bytes) → oneOf s (w ∷ []) ≡ same s w
 unfolding oneOf

@@ -1,2 +1,4 @@
 pub mod Digits
 pub mod Out
+pub mod Shown
+pub mod Writing

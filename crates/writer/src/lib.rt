@@ -1,1 +1,245 @@
-// A text that is measured or written.
+// A text that is written into a lent buffer, or only measured.
+ghost use mathlib.Core.Bool.{true, _&&_};
+ghost use mathlib.Core.List.{[], _∷_};
+ghost use mathlib.Core.Path.{_≡_};
+ghost use Prim.Native.Nat.{_+_, _≤_, _<_};
+ghost use lib.ListN.{length, replicate};
+ghost use Rattle.common.specs.Puts.{Puts};
+ghost use Rattle.text.specs.Text.{escaped, isSpace};
+ghost use Rattle.writer.specs.Digits.{digits};
+ghost use Rattle.writer.specs.Out.{greater, pushAll};
+ghost use Rattle.writer.specs.Shown.{shown, shownByte};
+ghost use Rattle.writer.specs.Writing.{Does, Ready, grown, stored, trimmed};
+
+// The text's length, its length without the blanks at its end, and the greatest length that it ever had.
+pub struct Writer {
+    pub len: usize,
+    pub kept: usize,
+    pub peak: usize,
+}
+
+pub fn greater(a: usize, b: usize) -> usize
+    ensures { λ r. ⌜ r ≡ greater a b ⌝ }
+{
+    if a < b {
+        return b;
+    }
+    a
+}
+
+// The numbers after n bytes more, of which k are left without the blanks at their end.
+fn grown(w: Writer, n: usize, k: usize) -> Writer
+    requires { ⌜ (w .len + n < 9223372036854775808) × (k ≤ n) ⌝ }
+    ensures { λ r. ⌜ r ≡ grown w n k ⌝ }
+{
+    let len = w.len + n;
+    let peak = greater(w.peak, len);
+    if k == 0 {
+        return Writer {
+            len,
+            kept: w.kept,
+            peak,
+        };
+    }
+    Writer {
+        len,
+        kept: w.len + k,
+        peak,
+    }
+}
+
+fn store_byte(out: &mut [u8], at: usize, b: u8, write: bool)
+    requires { ⌜ (write ≡ true → at < length (now out)) ⌝ }
+    ensures { λ r. ⌜ now (out .exit) ≡ stored write (now (out .entry)) at (b ∷ []) ⌝ }
+{
+    if write {
+        out[at] = b;
+        return;
+    }
+}
+
+fn store(out: &mut [u8], at: usize, word: &[u8], write: bool)
+    requires { ⌜ (write ≡ true → at + length (now word) ≤ length (now out)) ⌝ }
+    ensures { λ r. ⌜ now (out .exit) ≡ stored write (now (out .entry)) at (now (word .entry)) ⌝ }
+{
+    if write {
+        common::put(out, at, word);
+        return;
+    }
+}
+
+// Copies of b to at and on; the place past them.
+fn fill(out: &mut [u8], at: usize, b: u8, times: usize) -> usize
+    requires { ⌜ at + times ≤ length (now out) ⌝ }
+    ensures { λ r. ⌜ Puts (now (out .entry)) at (replicate times b) (now (out .exit)) r ⌝ }
+{
+    let mut here = at;
+    let mut left = times;
+    while 0 < left {
+        out[here] = b;
+        here += 1;
+        left -= 1;
+    }
+    here
+}
+
+fn store_copies(out: &mut [u8], at: usize, b: u8, times: usize, write: bool)
+    requires { ⌜ (write ≡ true → at + times ≤ length (now out)) ⌝ }
+    ensures { λ r. ⌜ now (out .exit) ≡ stored write (now (out .entry)) at (replicate times b) ⌝ }
+{
+    if write {
+        fill(out, at, b, times);
+        return;
+    }
+}
+
+// One byte.
+pub fn push(w: Writer, b: u8, out: &mut [u8], write: bool) -> Writer
+    requires { ⌜ Ready write w (now out) (pushAll (b ∷ [])) ⌝ }
+    ensures { λ r. ⌜ Does write w (now (out .entry)) r (now (out .exit)) (pushAll (b ∷ [])) ⌝ }
+{
+    store_byte(out, w.len, b, write);
+    if text::is_space(b) {
+        return grown(w, 1, 0);
+    }
+    grown(w, 1, 1)
+}
+
+// A run of bytes.
+pub fn put(w: Writer, word: &[u8], out: &mut [u8], write: bool) -> Writer
+    requires { ⌜ Ready write w (now out) (pushAll (now word)) ⌝ }
+    ensures { λ r. ⌜ Does write w (now (out .entry)) r (now (out .exit)) (pushAll (now (word .entry))) ⌝ }
+{
+    store(out, w.len, word, write);
+    grown(w, word.len(), text::rstrip(word))
+}
+
+// Copies of one byte.
+pub fn pad(w: Writer, b: u8, times: usize, out: &mut [u8], write: bool) -> Writer
+    requires { ⌜ Ready write w (now out) (pushAll (replicate times b)) ⌝ }
+    ensures { λ r. ⌜ Does write w (now (out .entry)) r (now (out .exit)) (pushAll (replicate times b)) ⌝ }
+{
+    store_copies(out, w.len, b, times, write);
+    if text::is_space(b) {
+        return grown(w, times, 0);
+    }
+    grown(w, times, times)
+}
+
+// The blanks at the end away.
+pub fn trim_end(w: Writer) -> Writer
+    ensures { λ r. ⌜ r ≡ trimmed w ⌝ }
+{
+    Writer {
+        len: w.kept,
+        kept: w.kept,
+        peak: w.peak,
+    }
+}
+
+// A byte as `escape` has it.
+fn put_escaped(w: Writer, b: u8, out: &mut [u8], write: bool) -> Writer
+    requires { ⌜ Ready write w (now out) (pushAll (escaped b)) ⌝ }
+    ensures { λ r. ⌜ Does write w (now (out .entry)) r (now (out .exit)) (pushAll (escaped b)) ⌝ }
+{
+    match b {
+        38 => put(w, b"&amp;", out, write),
+        34 => put(w, b"&quot;", out, write),
+        60 => put(w, b"&lt;", out, write),
+        62 => put(w, b"&gt;", out, write),
+        _ => push(w, b, out, write),
+    }
+}
+
+// A byte of a text, by whether it is a blank to squeeze and whether one stood before it.
+fn put_byte(
+    w: Writer,
+    b: u8,
+    blank: bool,
+    space: bool,
+    escapes: bool,
+    out: &mut [u8],
+    write: bool,
+) -> Writer
+    requires { ⌜ Ready write w (now out) (pushAll (shownByte blank space escapes b)) ⌝ }
+    ensures { λ r. ⌜ Does write w (now (out .entry)) r (now (out .exit)) (pushAll (shownByte blank space escapes b)) ⌝ }
+{
+    if blank {
+        if space {
+            return w;
+        }
+        return push(w, 32, out, write);
+    }
+    if escapes {
+        return put_escaped(w, b, out, write);
+    }
+    push(w, b, out, write)
+}
+
+fn is_squeezed(squeeze: bool, b: u8) -> bool
+    ensures { λ r. ⌜ r ≡ (squeeze && isSpace b) ⌝ }
+{
+    if squeeze {
+        return text::is_space(b);
+    }
+    false
+}
+
+fn put_shown(
+    w: Writer,
+    s: &[u8],
+    squeeze: bool,
+    space: bool,
+    escapes: bool,
+    out: &mut [u8],
+    write: bool,
+) -> Writer
+    requires { ⌜ Ready write w (now out) (pushAll (shown squeeze space escapes (now s))) ⌝ }
+    ensures { λ r. ⌜ Does write w (now (out .entry)) r (now (out .exit)) (pushAll (shown squeeze space escapes (now (s .entry)))) ⌝ }
+{
+    let mut q = w;
+    let mut last = space;
+    let mut i = 0;
+    while i < s.len() {
+        let b = s[i];
+        let blank = is_squeezed(squeeze, b);
+        q = put_byte(q, b, blank, last, escapes, out, write);
+        last = blank;
+        i += 1;
+    }
+    q
+}
+
+// A text: its blanks squeezed where asked, as if one stood before it where `space`, and escaped where asked.
+pub fn put_text(
+    w: Writer,
+    s: &[u8],
+    squeeze: bool,
+    space: bool,
+    escapes: bool,
+    out: &mut [u8],
+    write: bool,
+) -> Writer
+    requires { ⌜ Ready write w (now out) (pushAll (shown squeeze space escapes (now s))) ⌝ }
+    ensures { λ r. ⌜ Does write w (now (out .entry)) r (now (out .exit)) (pushAll (shown squeeze space escapes (now (s .entry)))) ⌝ }
+{
+    if squeeze {
+        return put_shown(w, s, squeeze, space, escapes, out, write);
+    }
+    if escapes {
+        return put_shown(w, s, squeeze, space, escapes, out, write);
+    }
+    put(w, s, out, write)
+}
+
+// A number in decimal.
+pub fn put_number(w: Writer, n: usize, out: &mut [u8], write: bool) -> Writer
+    requires { ⌜ Ready write w (now out) (pushAll (digits n)) ⌝ }
+    ensures { λ r. ⌜ Does write w (now (out .entry)) r (now (out .exit)) (pushAll (digits n)) ⌝ }
+{
+    if n < 10 {
+        return push(w, 48 + n as u8, out, write);
+    }
+    let q = put_number(w, n / 10, out, write);
+    push(q, 48 + (n % 10) as u8, out, write)
+}

@@ -1,0 +1,6 @@
+pub mod CostLaws
+pub mod DigitsLaws
+pub mod DoesLaws
+pub mod HeldLaws
+pub mod OutLaws
+pub mod ShownLaws
