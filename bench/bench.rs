@@ -1,6 +1,6 @@
 //! Times the Rust (html2text.rs and filters.rs, unchanged, its tree already built) and the reader (sheet and all, through the C
 //! function of oracle/driver.c) on the same pages, run after run in turns, and prints the medians in one table.
-//! bench [CASES]: with a file of cases, those too, as one page.
+//! bench [CASES]: with a file of cases, those too, all of one option line together.
 use oracle::cases;
 use oracle::extract::html2text::extract_plain_text;
 use oracle::parse::html::tree::HtmlTree;
@@ -253,7 +253,7 @@ fn buffers(p: &Page) -> (Vec<u8>, Vec<u8>) {
 
 fn measure(name: &str, pages: Vec<Page>) {
     let rows: usize = pages.iter().map(|p| p.rows).sum();
-    let trees: Vec<_> = pages.iter().map(|p| (HtmlTree(sheet::read(&p.sheet).unwrap().shared()), cases::options(&[&p.options[..], b"\n"].concat()).unwrap())).collect();
+    let trees: Vec<_> = pages.iter().map(|p| (HtmlTree(sheet::read(&p.sheet).unwrap().shared()), cases::options(&p.options).unwrap())).collect();
     let mut lent: Vec<_> = pages.iter().map(buffers).collect();
     for ((tree, opts), (p, (out, work))) in trees.iter().zip(pages.iter().zip(&mut lent)) {
         let text = extract_plain_text(tree, opts).unwrap();
@@ -285,11 +285,12 @@ fn measure(name: &str, pages: Vec<Page>) {
 
 fn one(options: &str, sheet: Vec<u8>) -> Vec<Page> {
     let rows = sheet::read(&sheet).unwrap().rows.len();
-    vec![Page { options: options.into(), sheet, rows }]
+    vec![Page { options: format!("{}\n", options).into(), sheet, rows }]
 }
 
 fn main() {
-    println!("{:34}{:>8}{:>10}{:>12}{:>12}{:>9}", "page", "rows", "bytes", "Rust", "reader", "ratio");
+    let reader = std::env::var("READER").unwrap_or("reader".into());
+    println!("{:34}{:>8}{:>10}{:>12}{:>12}{:>9}", "page", "rows", "bytes", "Rust", reader, "ratio");
     println!("{:52}{:>12}{:>12}", "", "ns a row", "ns a row");
     let standing = "1011001100";
     let main_content = "1111001100";

@@ -181,7 +181,6 @@ def worked(out):
 
 
 def check(answers):
-    """How many are right."""
     right = 0
     for options, markup, text in DOCUMENT + QUIRKS:
         number, _, _, length = (int(answers.read(8)) for _ in range(4))

@@ -741,7 +741,7 @@ fn icons(random: &mut Random) -> Vec<Tree> {
 
 /// Rows one below the other.
 fn deep(random: &mut Random) -> Vec<Tree> {
-    let levels = *random.one(&[20, 60, 200, 499]);
+    let levels = *random.one(&[20, 60, 200, 500]);
     let names: &[&str] = *random.one(&[
         &["div"] as &[&str],
         &["ul", "li"],

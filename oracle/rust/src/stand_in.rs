@@ -19,7 +19,7 @@ pub unsafe extern "C" fn stand_in_extract(
     answer_at: *mut u64,
     answer_len: usize,
 ) {
-    let (sheet, digits, out, answer) = unsafe {
+    let (sheet, line, out, answer) = unsafe {
         (
             std::slice::from_raw_parts(sheet_at, sheet_len),
             std::slice::from_raw_parts(options_at, options_len),
@@ -27,8 +27,7 @@ pub unsafe extern "C" fn stand_in_extract(
             std::slice::from_raw_parts_mut(answer_at, answer_len),
         )
     };
-    let line = [digits, b"\n"].concat();
-    let mut said = match (cases::options(&line), sheet::read(sheet)) {
+    let mut said = match (cases::options(line), sheet::read(sheet)) {
         (None, _) => cases::Answer::refused((33, 0)),
         (_, Err(refusal)) => cases::Answer::refused(refusal),
         (Some(opts), Ok(page)) => cases::extracted(&page.shared(), &opts),
