@@ -1,6 +1,6 @@
 #!/usr/bin/env python3
-"""Use: difference.py CASES BY-RUST BY-READER RUST-COMMAND READER-COMMAND
-Tells the first case on which the answers differ, makes it smaller as long as they do, and ends with 1. The Rust has no bound on
+"""Use: difference.py CASES BY-RUST BY-READER RUST-COMMAND READER-COMMAND TO
+Tells the first case on which the answers differ, makes it smaller as long as they do, writes it to TO, and ends with 1. The Rust has no bound on
 list levels and open rows: where the reader says 21 or 22, oracle/reference.py must say so too."""
 import subprocess
 import sys
@@ -164,7 +164,7 @@ def shrunk(rows, rust, reader):
 
 
 def main():
-    files, (rust, reader) = sys.argv[1:4], sys.argv[4:6]
+    files, (rust, reader, to) = sys.argv[1:4], sys.argv[4:7]
     cases, by_rust, by_reader = (f(open(name, "rb").read()) for f, name in zip((split_cases, split_answers, split_answers), files))
     if not len(cases) == len(by_rust) == len(by_reader):
         print("%d cases, %d answers of the Rust, %d of the reader" % (len(cases), len(by_rust), len(by_reader)))
@@ -182,11 +182,11 @@ def main():
         else:
             print("only with its own pool:")
         print(rows)
-        print("the Rust:   %s %r" % (a[:32].split(), a[33:].decode()))
-        print("the reader: %s %r" % (b[:32].split(), b[33:].decode()))
-        print("the case's bytes:")
-        sys.stdout.flush()
-        sys.stdout.buffer.write(c + b"\n")
+        for name, said in (("Rust:  ", a), ("reader:", b)):
+            print("the %s %s %r" % (name, said[:32].decode(), said[33:-1].decode("utf-8", "replace")))
+        with open(to, "wb") as f:
+            f.write(b"%8d\n" % len(c) + c)
+        print("the case stands in %s" % to)
         sys.exit(1)
 
 

@@ -16,14 +16,18 @@ struct answer {
    #[no_mangle]
    pub extern "C" fn reader_extract(sheet: &[u8], options: &[u8], out: &mut [u8], work: &mut [u8], answer: &mut [u64])
 
-   options: the ten digits; answer: number, second number, visits, length. A slice is two arguments, its start and its length. */
+   options: the option line, ten digits and LF; answer: number, second number, visits, length. A slice is two arguments, its
+   start and its length. */
+#ifdef STAND_IN
+#define reader_extract stand_in_extract
+#endif
 void reader_extract(const uint8_t *sheet, size_t sheet_len, const uint8_t *options, size_t options_len, uint8_t *out,
                     size_t out_len, uint8_t *work, size_t work_len, uint64_t *answer, size_t answer_len);
 
 struct answer reader_answer(const uint8_t *options, const uint8_t *sheet, size_t len, uint8_t *out, size_t out_len, uint8_t *work,
                             size_t work_len) {
     uint64_t said[4] = {0};
-    reader_extract(sheet, len, options, 10, out, out_len, work, work_len, said, 4);
+    reader_extract(sheet, len, options, 11, out, out_len, work, work_len, said, 4);
     return (struct answer){said[0], said[1], said[2], said[3]};
 }
 

@@ -5,6 +5,7 @@ Rust. The patterns are read from crates/patterns/specs/Patterns.antt.
 
 Use: reference.py [--out N] [--work N] [--laws] < cases > answers      (cases and answers as in oracle/rust/src/cases.rs)
 --out, --work: the lengths of the lent buffers (none: long enough). --laws: the theorems on pages are tried on each case too.
+reference.py --needs < cases: the numbers of each without buffers, and with the work that is needed (as oracle/driver.c has it).
 Sheets must be accepted ones."""
 import os
 import re
@@ -1047,14 +1048,20 @@ def row_pieces(o, n, end):
     return element_pieces(o, n, end) if n.kind == ELEMENT else [n.value] if n.kind == TEXT else []
 
 
-def pieces(walk, trees):
+def pieces(walk, trees, up=()):
+    """Each with its row and those above it."""
     for i, children in trees:
         if walk.left_out(i):
             continue
-        yield from row_pieces(walk.o, walk.p.node[i], False)
-        yield from pieces(walk, children)
+        path = up + (i,)
+        yield from ((path, s) for s in row_pieces(walk.o, walk.p.node[i], False))
+        yield from pieces(walk, children, path)
         if children != []:
-            yield from row_pieces(walk.o, walk.p.node[i], True)
+            yield from ((path, s) for s in row_pieces(walk.o, walk.p.node[i], True))
+
+
+def struck_pieces(ps):
+    return b"".join(struck(s) for _, s in ps)
 
 
 def cells_right(p):
@@ -1073,14 +1080,35 @@ def cells_right(p):
     return True
 
 
-def demand_3(walk, text):
-    """The first part: blanks, and the pieces of one page. Further marks are another page, with its own pieces."""
+def blanks_right(text):
     for i, c in enumerate(text):
         assert not is_space(c) or c == 0x20, "spaces"
-        assert not all(is_space(c) for c in text[i:i + 3]) or i + 2 >= len(text), "apart"
+        assert i + 2 >= len(text) or not all(is_space(c) for c in text[i:i + 3]), "apart"
     assert not ends_blank(text), "last"
-    if cells_right(walk.p):
-        assert struck(text) == b"".join(struck(s) for s in pieces(walk, walk.tree())), "pieces"
+
+
+def demand_3(walk, text):
+    p, o = walk.p, walk.o
+    blanks_right(text)
+    if not cells_right(p):
+        return
+    first = list(pieces(walk, walk.tree()))
+    assert struck(text) == struck_pieces(first), "first"
+    # further marks, by the row's number and the page's length
+    further = {i for i in range(len(p.depths)) if not p.marked[i] and (i * 2654435761 + len(p.depths)) >> 5 & 7 == 0}
+    other = object.__new__(Page)
+    other.__dict__.update(p.__dict__)
+    other.marked = [m or i in further for i, m in enumerate(p.marked)]
+    assert cells_right(other), "cells"
+    again = Walk(other, o)
+    try:
+        S = serialized(o, collect_all(o, again.events(0, again.tree(), [])))
+    except Refused:
+        return
+    text = rstrip(S.text)
+    blanks_right(text)
+    assert struck(text) == struck_pieces(pieces(again, again.tree())), "second"
+    assert struck(text) == struck_pieces((path, s) for path, s in first if not further & set(path)), "second less"
 
 
 # ---- the program
@@ -1092,6 +1120,13 @@ def answer(case, out=None, work=None, laws=False):
     return said + text + b"\n" if numbers[0] == 0 else said
 
 
+def needs(case):
+    first = second = answer(case, 0, 0)[:33]
+    if int(first[:8]) == 31:
+        second = answer(case, 0, int(first[8:16]))[:33]
+    return first + second
+
+
 def main():
     args = sys.argv[1:]
     length = lambda name: int(args[args.index(name) + 1]) if name in args else None
@@ -1100,7 +1135,8 @@ def main():
         head = cases.read(9)
         if not head:
             break
-        answers.write(answer(cases.read(int(head)), length("--out"), length("--work"), "--laws" in args))
+        case = cases.read(int(head))
+        answers.write(needs(case) if "--needs" in args else answer(case, length("--out"), length("--work"), "--laws" in args))
 
 
 if __name__ == "__main__":

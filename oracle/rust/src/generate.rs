@@ -618,87 +618,92 @@ fn filtered(random: &mut Random) -> Vec<Tree> {
     }
     trees.push(text("t"));
     let around = random.word("div section span x");
-    let levels = random.below(8);
-    let mut trees = wrapped(&[around], levels, trees);
+    for _ in 0..random.below(8) {
+        let name = if random.percent(6) { "body" } else { around };
+        trees = vec![plain(name, trees)];
+    }
     trees.push(text("after"));
     trees
 }
 
-/// Text and links near a rule's ratio and limit.
+/// So many bytes of text, with runs of blanks that collapse to one.
+fn run(random: &mut Random, bytes: usize) -> String {
+    let mut s = String::new();
+    let mut left = bytes;
+    while left > 0 {
+        if left >= 2 && random.percent(4) {
+            s.push('é');
+            left -= 2;
+        } else if left >= 2 && s.ends_with('x') && random.percent(10) {
+            s += &format!("{} x", blanks(random));
+            left -= 2;
+        } else {
+            s.push('x');
+            left -= 1;
+        }
+    }
+    s
+}
+
+/// Text and links near the ratio and the limit of a rule, in an element that it is for.
 fn cluster(random: &mut Random) -> Vec<Tree> {
-    let total = match random.below(8) {
-        0..3 => *random.one(&[100usize, 499, 500, 501, 799, 800, 801, 1499, 1500, 1501]),
-        _ => random.between(1, 120),
-    };
+    // name, the least depth at which the rule is asked, fifths, limit
+    let (name, depth, fifths, limit) = *random.one(&[
+        ("ul", 4, 1, 0),
+        ("footer", 3, 1, 0),
+        ("article", 3, 1, 500),
+        ("div", 6, 3, 800),
+        ("div", 3, 3, 1500),
+    ]);
+    let total: usize = if limit > 0 && random.percent(40) { limit - 1 + random.below(3) } else { random.between(1, 120) };
     let links = match random.below(8) {
         0 => 0,
-        1..4 => total / 5 + random.below(3),
-        4..7 => total * 3 / 5 + random.below(3),
-        _ => total,
-    }
-    .saturating_sub(1)
-    .min(total);
-    // what a text of so many bytes is made of, with runs of blanks that collapse to one
-    let run = |random: &mut Random, n: usize| -> String {
-        let mut s = String::new();
-        let mut left = n;
-        while left > 0 {
-            if left >= 2 && random.percent(4) {
-                s.push('é');
-                left -= 2;
-            } else if left >= 2 && s.ends_with('x') && random.percent(10) {
-                s += &format!("{} ", blanks(random));
-                s.push('x');
-                left -= 2;
-            } else {
-                s.push('x');
-                left -= 1;
-            }
-        }
-        s
+        1 | 2 => total,
+        _ => (total * fifths / 5 + random.below(3)).saturating_sub(1).min(total),
     };
     let mut inside = vec![];
     let parts = random.between(1, 3);
     for k in 0..parts {
         let share = |n: usize| n / parts + (k < n % parts) as usize;
         let s = run(random, share(links));
-        let link = match random.below(12) {
+        let link = match random.below(16) {
             // nested links count twice
             0 => plain("a", vec![plain("a", vec![text(s)])]),
             1 => plain("a", vec![plain("b", vec![text(s)]), comment("xxxxxxxxxx")]),
             2 => plain("A", vec![text(s)]),
-            3 => {
-                let mut t = plain("a", vec![text(s)]);
-                t.marked = true;
-                t
-            }
+            3 => Tree { marked: true, ..plain("a", vec![text(s)]) },
             4 => plain("a", vec![text(s), text(blanks(random))]),
             _ => plain("a", vec![text(s)]),
         };
         inside.push(link);
         let s = run(random, share(total - links));
-        inside.push(match random.below(8) {
+        inside.push(match random.below(16) {
             0 => plain("span", vec![text(s)]),
             1 => text(format!("{}{}", s, blanks(random))),
+            2 => comment(&s),
             _ => text(s),
         });
     }
-    let name = random.word("ul footer article div div section li a");
-    let list = match random.below(3) {
-        0 => vec![],
-        1 => vec![(random.word("class id").into(), random.word("x plain y").into())],
-        _ => attributes(random, name, 20),
+    let attributes = match (limit, random.below(10)) {
+        (_, 0) => attributes(random, name, 30),
+        (1500, _) => vec![(random.word("class id").into(), random.word("x plain y").into())],
+        _ => vec![],
     };
-    let mut trees = vec![element(name, list, inside)];
-    while random.percent(30) {
+    let name = if random.percent(5) { random.word("section li a nav main") } else { name };
+    let mut trees = vec![element(name, attributes, inside)];
+    // a footer must be followed to be kept
+    if name == "footer" && random.percent(70) {
+        trees.push(plain("p", vec![text("p")]));
+    }
+    while random.percent(20) {
         trees.push(match random.below(3) {
             0 => text("t"),
             1 => plain("p", vec![text("p")]),
             _ => comment("c"),
         });
     }
-    let levels = random.below(8);
-    wrapped(&["div", "section"], levels, trees)
+    let levels = (depth + random.below(4)).saturating_sub(2);
+    wrapped(&["section"], levels, trees)
 }
 
 /// Footers at several depths, and what follows them and the rows above them.
@@ -736,7 +741,7 @@ fn icons(random: &mut Random) -> Vec<Tree> {
 
 /// Rows one below the other.
 fn deep(random: &mut Random) -> Vec<Tree> {
-    let levels = *random.one(&[20, 60, 200, 499]);
+    let levels = *random.one(&[20, 60, 200, 500]);
     let names: &[&str] = *random.one(&[
         &["div"] as &[&str],
         &["ul", "li"],
@@ -775,6 +780,18 @@ fn open_rows(random: &mut Random) -> Vec<Tree> {
         trees.insert(at, plain(name, vec![text("y")]));
     }
     trees
+}
+
+/// All small pages: those of one and two rows below body under 48 option lines, then those of three rows under one each.
+pub fn small_cases() -> usize {
+    48 * (pages_of(1) + pages_of(2)) + pages_of(3)
+}
+
+pub fn small_case(k: usize) -> Vec<u8> {
+    let smaller = small_cases() - pages_of(3);
+    let (options, trees) = if k < smaller { smallest(k) } else { (option_line(k * 7919 % 768), small_page(3, k - smaller)) };
+    let sheet = sheet_of(&mut Random(k as u64), Layout::Apart, Root::Body, &plain("body", trees));
+    [&options[..], &sheet].concat()
 }
 
 // ---- cases
@@ -833,18 +850,18 @@ pub fn case(seed: u64, number: u64) -> Vec<u8> {
             (main_content_options(random), trees)
         }
         14 => (main_content_options(random), filtered(random)),
-        _ if random.percent(3) => {
-            if !random.percent(10) {
-                layout = Layout::Apart;
-                (any, deep(random))
-            } else {
-                layout = Layout::Apart;
-                if random.percent(50) {
+        _ if random.percent(5) => {
+            layout = Layout::Apart;
+            match random.below(20) {
+                0 | 1 => {
+                    root = Root::Body;
                     (any, open_rows(random))
-                } else {
+                }
+                2 => {
                     let rows = random.between(200, 1500);
                     (any, grown(random, Place::Flow, rows, 20, 5, 3))
                 }
+                _ => (any, deep(random)),
             }
         }
         _ => {

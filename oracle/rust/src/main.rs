@@ -1,5 +1,6 @@
 //! oracle run: cases from standard input, the Rust's answers to standard output.
 //! oracle generate SEED FROM COUNT: cases to standard output, each by its number alone.
+//! oracle small FROM COUNT: of all small pages, those of these numbers, as far as there are any.
 use oracle::{cases, generate};
 use std::io::{BufWriter, Read, Write};
 
@@ -20,6 +21,11 @@ fn main() {
                 out.write_all(&cases::framed(&generate::case(number(2), i))).unwrap();
             }
         }
-        _ => panic!("run, or generate SEED FROM COUNT"),
+        Some("small") => {
+            for k in (number(2) as usize..generate::small_cases()).take(number(3) as usize) {
+                out.write_all(&cases::framed(&generate::small_case(k))).unwrap();
+            }
+        }
+        _ => panic!("run, generate SEED FROM COUNT, or small FROM COUNT"),
     }
 }

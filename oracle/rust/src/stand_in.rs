@@ -1,4 +1,4 @@
-//! The Rust behind the C function that oracle/driver.c calls, for trying the driver and the benchmark without the reader.
+//! The Rust behind a C function like the reader's (oracle/driver.c), for trying the driver and the benchmark without the reader.
 //! It reads the sheet, builds the tree and extracts; it knows no 21, 22 or 31, and of 32 only the length of the text.
 
 use crate::cases;
@@ -7,7 +7,7 @@ use crate::sheet;
 /// # Safety
 /// Each pointer is the start of so many bytes (numbers), of which `out` and `answer` may be written.
 #[unsafe(no_mangle)]
-pub unsafe extern "C" fn reader_extract(
+pub unsafe extern "C" fn stand_in_extract(
     sheet_at: *const u8,
     sheet_len: usize,
     options_at: *const u8,
@@ -19,7 +19,7 @@ pub unsafe extern "C" fn reader_extract(
     answer_at: *mut u64,
     answer_len: usize,
 ) {
-    let (sheet, digits, out, answer) = unsafe {
+    let (sheet, line, out, answer) = unsafe {
         (
             std::slice::from_raw_parts(sheet_at, sheet_len),
             std::slice::from_raw_parts(options_at, options_len),
@@ -27,8 +27,7 @@ pub unsafe extern "C" fn reader_extract(
             std::slice::from_raw_parts_mut(answer_at, answer_len),
         )
     };
-    let line = [digits, b"\n"].concat();
-    let mut said = match (cases::options(&line), sheet::read(sheet)) {
+    let mut said = match (cases::options(line), sheet::read(sheet)) {
         (None, _) => cases::Answer::refused((33, 0)),
         (_, Err(refusal)) => cases::Answer::refused(refusal),
         (Some(opts), Ok(page)) => cases::extracted(&page.shared(), &opts),
