@@ -1,10 +1,10 @@
--- What holds of the state along a run of `serialize`, over entries or fused with `collect`.
+-- What holds of the state as long as no entry is refused.
 use mathlib.Core.Path.{_≡_, subst}
 use mathlib.Core.Bool.{Bool, false}
 use Rattle.common.proofs.Choice.{by-cond}
 use Rattle.options.specs.declared.Formatting.{Formatting}
-use Rattle.html2text.specs.Collect.{Entry}
 use Rattle.html2text.specs.Bounds.{Going}
+use Rattle.html2text.specs.Collect.{Entry}
 use Rattle.html2text.specs.Extract.{Run, going, tooManyLevels, tooManyRows, passesLevels, passesRows, taken}
 use Rattle.html2text.specs.Serialize.{State, step}
 

@@ -1,4 +1,4 @@
--- A step changes list depth, list levels and open rows by its node alone; what a pass without texts keeps is what the run with texts has.
+-- A step changes list depth, list levels and open rows by its node alone.
 use mathlib.Core.Path.{_≡_, refl, sym, ap, _∙_}
 use mathlib.Core.Bool.{Bool, true, false, _&&_, not, cond}
 use mathlib.Core.List.{List, [], _∷_, _++_}
@@ -150,6 +150,11 @@ module _ (n : ExtractNode) where
       go true true = λ i. record { depth = S .depth - 1; levels = length-pop (S .numbering) i; rows = length (S .rowHasCell) }
       go true false = λ i. record { depth = S .depth + 1; levels = length-more (S .numbering) (one (isOl (n .tag))) i; rows = length (S .rowHasCell) }
       go false d = refl
+
+  -- the list levels that an item finds
+  pub level-long : (S : State) → length (level n (countUncollapsed n S) .numbering) ≡ recounted (changesLevel (n .tag) (S .depth)) (n .end) (length (S .numbering))
+  unfolding levelled
+  level-long S = ap (λ (C : Counts). C .levels) (counts-level (countUncollapsed n S) ∙ ap (levelled true) (still-count true n S))
 
   -- a cell's end changes no level
   levelled-cell : (isCell (n .tag) && n .end) ≡ true → (on : Bool) (C : Counts) → levelled on C ≡ C

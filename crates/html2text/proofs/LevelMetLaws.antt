@@ -1,30 +1,31 @@
 -- Where formatting is not Off, `serialize` comes to every li with a list level open: the `expect` is never met without one.
 use mathlib.Core.Path.{_≡_, refl, sym, ap, _∙_}
-use mathlib.Core.Bool.{Bool, true, false, _&&_, _||_, not, cond}
+use mathlib.Core.Bool.{Bool, true, false, _&&_, _||_, cond}
 use mathlib.Core.List.{List, [], _∷_, _++_}
 use Prim.Native.Nat.{ℕ, zero, suc, _+_, _-_, _≤_}
 use native.Mathlib.Nat.{le-refl, le-trans}
 use native.Mathlib.Omega.{arith}
-use lib.Dec.{eqb, ltb}
-use lib.ListN.{length, getD, length-append, length-take, length-set}
+use lib.Dec.{eqb}
+use lib.ListN.{length}
 use borrow.Author.Tests.{eqb-true}
 use Rattle.common.specs.Bytes.{Bytes}
 use Rattle.common.proofs.Choice.{by-cond, by-test, absurd-test, and-parts}
 use Rattle.options.specs.Options.{isOff}
 use Rattle.options.specs.declared.ExtractOptions.{ExtractOptions}
 use Rattle.options.specs.declared.Formatting.{Formatting}
-use Rattle.options.specs.declared.Formatting.the-variants.{Off, Basic, MinimalHtml}
-use Rattle.tags.specs.Tags.{isTr, isCell, isUl, isOl, isList, isLi, isPre, isBr, isBlockTag}
+use Rattle.tags.specs.Tags.{isUl, isOl, isList, isLi, isBlockTag}
 use Rattle.tree.specs.Forest.{Forest, empty, node}
 use Rattle.tree.specs.Node.{Node}
 use Rattle.tree.specs.Page.{Page}
 use Rattle.html2text.specs.Collect.{Event, Entry, tagNumber, pushes, pushed, amended, onLast, collect, collectAll}
 use Rattle.html2text.specs.Extract.{going, serialized}
-use Rattle.html2text.specs.Serialize.{State, withPrefix, withBullet, withLevels, withMargins, withUncollapsed, one, pop, isEmpty, margin, rows, besideCell, inRow, cell, countUncollapsed, changesLevel, level, numberOf, numberText, item, htmlItem, htmlPre, htmlBr, htmlMarks, wantsTag, opensTag, tagMargins, beforeTag, htmlTag, blockAfterMarks, blockAfterTag, blockMargin, shortened, trims, collapses, indentText, lead, putText, afterBasic, finishHtml, afterHtml, stepBy, after, step}
+use Rattle.html2text.specs.Levels.{depthAfter}
+use Rattle.html2text.specs.Serialize.{State, countUncollapsed, changesLevel, level, after, step}
 use Rattle.html2text.specs.Theorems.{LevelMet}
 use Rattle.html2text.specs.Walk.{hasTrees, leftOut, eventAt, events, treeOf}
 use Rattle.html2text.specs.declared.ExtractNode.{ExtractNode}
 use Rattle.html2text.proofs.CollectLaws.{collect-all-append, block-pushes}
+use Rattle.html2text.proofs.LevelLaws.{step-levels, level-long}
 use Rattle.html2text.proofs.OrLaws.{or-cases}
 use Rattle.html2text.proofs.RunLaws.{serialized-from, serialized-start}
 
@@ -32,102 +33,6 @@ use Rattle.html2text.proofs.RunLaws.{serialized-from, serialized-start}
 record Level (d : ℕ) (S : State) : Type 0 where
   depth : S .depth ≡ d
   numbers : length (S .numbering) ≡ d
-
--- a state with the same levels
-same-level : {d : ℕ} (S T : State) → T .depth ≡ S .depth → T .numbering ≡ S .numbering → Level d S → Level d T
-same-level S T e f h = record { depth = e ∙ h .depth; numbers = ap length f ∙ h .numbers }
-
--- ---- the functions that leave the levels as they are
-
-module _ (d : ℕ) where
-  -- either way
-  either : (b : Bool) {S T : State} → Level d S → Level d T → Level d (cond b S T)
-  either b h g = by-cond (Level d) b (λ e. h) (λ e. g)
-
-  level-margin : (bare off : Bool) (S : State) → Level d S → Level d (margin bare off S)
-  unfolding margin
-  level-margin bare off S h = same-level S _ refl refl h
-
-  level-rows : (n : ExtractNode) (S : State) → Level d S → Level d (rows n S)
-  unfolding rows
-  level-rows n S h = either (isTr (n .tag)) (either (n .end) (same-level S _ refl refl h) (same-level S _ refl refl h)) h
-
-  level-in-row : (off : Bool) (S : State) → Level d S → Level d (inRow off S)
-  unfolding inRow besideCell
-  level-in-row off S h =
-      let T = besideCell off S in
-      let g : Level d T = either (getD (S .rowHasCell) (length (S .rowHasCell) - 1) false) (same-level S _ refl refl h) h in
-      either (eqb (length (S .rowHasCell)) 0) h (same-level T _ refl refl g)
-
-  level-cell : (off : Bool) (n : ExtractNode) (S : State) → Level d S → Level d (cell off n S)
-  unfolding cell
-  level-cell off n S h = either (isCell (n .tag)) (level-in-row off (margin (collapses off n) off S) (level-margin (collapses off n) off S h)) h
-
-  level-uncollapsed : (n : ExtractNode) (S : State) → Level d S → Level d (countUncollapsed n S)
-  unfolding countUncollapsed
-  level-uncollapsed n S h = either (n .block && not (n .«collapse_margins»)) (same-level S _ refl refl h) h
-
-  level-item : (bullets : Bool) (n : ExtractNode) (S : State) → Level d S → Level d (item bullets n S)
-  unfolding item
-  level-item bullets n S h =
-      either (bullets && isLi (n .tag))
-      (by-cond (λ (T : State). Level d (withBullet (not (n .end)) T)) (eqb (numberOf S) 0)
-      (λ e. same-level S _ refl refl h)
-      (λ e. by-cond (λ (T : State). Level d (withBullet (not (n .end)) (withPrefix (numberText (numberOf S)) T))) (n .end)
-      (λ e. same-level S _ refl refl h)
-      (λ e. record { depth = h .depth; numbers = length-set (S .numbering) (length (S .numbering) - 1) (numberOf S + 1) ∙ h .numbers })))
-      h
-
-  level-html-item : (bullets : Bool) (n : ExtractNode) (S : State) → Level d S → Level d (htmlItem bullets n S)
-  unfolding htmlItem
-  level-html-item bullets n S h =
-      let T = margin (collapses false n) false S in
-      either (bullets && isLi (n .tag)) (same-level T _ refl refl (level-margin (collapses false n) false S h)) h
-
-  level-html-pre : (n : ExtractNode) (S : State) → Level d S → Level d (htmlPre n S)
-  unfolding htmlPre
-  level-html-pre n S h =
-      let T = margin (collapses false n) false S in
-      either (isPre (n .tag)) (either (n .end) (same-level S _ refl refl h) (same-level T _ refl refl (level-margin (collapses false n) false S h))) h
-
-  level-html-marks : (bullets : Bool) (n : ExtractNode) (S : State) → Level d S → Level d (htmlMarks bullets n S)
-  unfolding htmlMarks htmlBr
-  level-html-marks bullets n S h =
-      let T = htmlPre n (htmlItem bullets n S) in
-      let g = level-html-pre n (htmlItem bullets n S) (level-html-item bullets n S h) in
-      either (isBr (n .tag)) (same-level T _ refl refl g) g
-
-  level-before-tag : (n : ExtractNode) (block : Bool) (S : State) → Level d S → Level d (beforeTag n block S)
-  unfolding beforeTag
-  level-before-tag n block S h =
-      let T = withMargins (tagMargins n block (S .margins)) S in
-      let U = margin (collapses false n) false T in
-      either (opensTag n (S .uncollapsed)) (same-level U _ refl refl (level-margin (collapses false n) false T (same-level S T refl refl h))) h
-
-  level-html-tag : (bullets : Bool) (n : ExtractNode) (block : Bool) (S : State) → Level d S → Level d (htmlTag bullets n block S)
-  unfolding htmlTag
-  level-html-tag bullets n block S h =
-      let T = beforeTag n block S in
-      either (wantsTag bullets n) (same-level T _ refl refl (level-before-tag n block S h)) h
-
-  level-block : (block : Bool) (n : ExtractNode) (S : State) → Level d S → Level d (blockMargin block n S)
-  unfolding blockMargin
-  level-block block n S h = either block (same-level S _ refl refl h) h
-
-  level-lead : (basic bullets : Bool) (S : State) → Level d S → Level d (lead basic bullets S)
-  unfolding lead indentText
-  level-lead basic bullets S h =
-      let T = indentText basic bullets S in
-      same-level T _ refl refl (either (basic && ltb 0 (S .depth)) (same-level S _ refl refl h) h)
-
-  level-text : (off basic bullets : Bool) (n : ExtractNode) (block : Bool) (t : Bytes) (S : State) → Level d S → Level d (putText off basic bullets n block t S)
-  unfolding putText
-  level-text off basic bullets n block t S h =
-      let M = margin (collapses off n) off S in
-      let U = withUncollapsed 0 M in
-      let L = lead basic bullets U in
-      either (isEmpty (shortened (collapses off n) (trims block S) t)) h
-      (same-level L _ refl refl (level-lead basic bullets U (same-level M U refl refl (level-margin (collapses off n) off S h))))
 
 -- ---- the level after an entry
 
@@ -137,56 +42,12 @@ raised list li end d = cond (list || (li && eqb d 0)) (cond end (d - 1) (d + 1))
 abbrev levelAfter : ℕ → Bool → ℕ → ℕ
 levelAfter t end d = raised (isList t) (isLi t) end d
 
-level-level : (d : ℕ) (n : ExtractNode) (S : State) → Level d S → Level (levelAfter (n .tag) (n .end) d) (level n S)
-unfolding level
-level-level d n S h =
-    rw (← h .depth)
-    (go (changesLevel (n .tag) (S .depth)) (n .end))
-  where
-    last : length (S .numbering) ≡ S .depth
-    last = h .numbers ∙ sym (h .depth)
-
-    go : (b end : Bool)
-        → Level (cond b (cond end (S .depth - 1) (S .depth + 1)) (S .depth))
-        (cond b
-        (cond end (withPrefix [] (withBullet false (withLevels (S .depth - 1) (pop (S .numbering)) S))) (withLevels (S .depth + 1) (S .numbering ++ (one (isOl (n .tag)) ∷ [])) S))
-        S)
-    go true true = record { depth = refl; numbers = simp length-take (omega arith) }
-    go true false = record { depth = refl; numbers = simp length-append (omega arith) }
-    go false end = record { depth = refl; numbers = last }
-
-cell-level : (t d : ℕ) (end : Bool) → isCell t ≡ true → levelAfter t end d ≡ d
-cell-level t d end h = rw (eqb-true t 2 h)
-
-level-after : (f : Formatting) (bullets : Bool) (n : ExtractNode) (t : Bytes) (d : ℕ) (S : State) → isOff f ≡ false → Level d S
-    → Level (levelAfter (n .tag) (n .end) d) (after f bullets n t S)
-unfolding afterBasic afterHtml finishHtml
-level-after Off bullets n t d S shows h = absurd-test refl shows
-level-after Basic bullets n t d S shows h =
-    let k = levelAfter (n .tag) (n .end) d in
-    let L = level n (countUncollapsed n S) in
-    let I = item bullets n L in
-    level-text k false true bullets n (n .block) t (blockMargin (n .block) n I)
-    (level-block k (n .block) n I (level-item k bullets n L (level-level d n (countUncollapsed n S) (level-uncollapsed d n S h))))
-level-after MinimalHtml bullets n t d S shows h =
-    let k = levelAfter (n .tag) (n .end) d in
-    let L = level n (countUncollapsed n S) in
-    let M = htmlMarks bullets n L in
-    let block = blockAfterTag bullets n (M .uncollapsed) in
-    let T = htmlTag bullets n (blockAfterMarks bullets n) M in
-    level-text k false false bullets n block t (blockMargin block n T)
-    (level-block k block n T
-    (level-html-tag k bullets n (blockAfterMarks bullets n) M
-    (level-html-marks k bullets n L (level-level d n (countUncollapsed n S) (level-uncollapsed d n S h)))))
-
 level-step : (f : Formatting) (bullets : Bool) (n : ExtractNode) (t : Bytes) (d : ℕ) (S : State) → isOff f ≡ false → Level d S
     → Level (levelAfter (n .tag) (n .end) d) (step f bullets n t S)
-unfolding stepBy
 level-step f bullets n t d S shows h =
-    let r = level-rows d n S h in
-    by-cond (Level (levelAfter (n .tag) (n .end) d)) (isCell (n .tag) && n .end)
-    (λ e. rw (cell-level (n .tag) d (n .end) (and-parts (isCell (n .tag)) (n .end) e .0)) r)
-    (λ e. level-after f bullets n t d (cell (isOff f) n (rows n S)) shows (level-cell d (isOff f) n (rows n S) r))
+    let q = step-levels n bullets t f S in
+    let k : depthAfter f n (S .depth) ≡ levelAfter (n .tag) (n .end) d = rw (shows, h .depth) in
+    record { depth = q .depth ∙ k; numbers = sym (q .numbering (h .depth ∙ sym (h .numbers))) ∙ q .depth ∙ k }
 
 -- ---- the level after all entries
 
@@ -336,6 +197,6 @@ level-met p hidden o = record {
   met = λ later before e S split shows going-is li.
       let held : Held (later ++ (e ∷ before)) = rw split at (forest-rises o (p .node) hidden (treeOf p) [] 0 tt .held) in
       let h = level-serialized o shows before S going-is in
-      let x = level-level (levelOf before) (e .node) (countUncollapsed (e .node) S) (level-uncollapsed (levelOf before) (e .node) S h) in
-      omega (arith, x .numbers, li-level (e .node .tag) (levelOf before) (e .node .end) li (held-at later (e ∷ before) held .0 li));
+      let x : length (level (e .node) (countUncollapsed (e .node) S) .numbering) ≡ levelAfter (e .node .tag) (e .node .end) (levelOf before) = level-long (e .node) S ∙ rw (h .depth, h .numbers) in
+      omega (arith, x, li-level (e .node .tag) (levelOf before) (e .node .end) li (held-at later (e ∷ before) held .0 li));
 }

@@ -1,4 +1,5 @@
 pub mod AlikeSheets
+pub mod AlongLaws
 pub mod BlankRuns
 pub mod BoundLaws
 pub mod CollectLaws
@@ -13,6 +14,7 @@ pub mod LostStrip
 pub mod MeasureLaws
 pub mod OffLaws
 pub mod OrLaws
+pub mod PageBounds
 pub mod PageLaws
 pub mod RiseLaws
 pub mod RunLaws

@@ -2,7 +2,7 @@
 use mathlib.Core.Path.{_≡_, refl, sym, ap, _∙_}
 use mathlib.Core.Bool.{Bool, true, false, cond}
 use mathlib.Core.List.{List, [], _∷_}
-use Prim.Native.Nat.{suc, _+_, _≤_}
+use Prim.Native.Nat.{ℕ, suc, _+_, _≤_}
 use native.Mathlib.Nat.{zero-add}
 use native.Mathlib.Omega.{arith}
 use lib.ListN.{length, length-append}
@@ -35,6 +35,23 @@ levels-taken f bullets e (going S) = go (passesLevels f (e .node) S) (passesRows
     go false false = let q = step-levels (e .node) bullets (e .text) f S in λ i. counted (q .depth i) (q .rows i)
 levels-taken f bullets e (tooManyLevels line) = refl
 levels-taken f bullets e (tooManyRows line) = refl
+
+-- the levels tell where a run stands
+
+pub levels-going : {depth rows : ℕ} (R : Run) → levelsOf R ≡ counted depth rows → (S : State) × (R ≡ going S)
+levels-going (going S) e = (S, refl)
+levels-going (tooManyLevels line) e = absurd (let z : _≡_ {A = ℕ} 0 1 = cc in omega arith)
+levels-going (tooManyRows line) e = absurd (let z : _≡_ {A = ℕ} 0 1 = cc in omega arith)
+
+pub levels-depth : {line : ℕ} (R : Run) → levelsOf R ≡ depthRefused line → R ≡ tooManyLevels line
+levels-depth (going S) e = cc
+levels-depth (tooManyLevels first) e = cc
+levels-depth (tooManyRows first) e = cc
+
+pub levels-rows : {line : ℕ} (R : Run) → levelsOf R ≡ rowsRefused line → R ≡ tooManyRows line
+levels-rows (going S) e = cc
+levels-rows (tooManyLevels first) e = cc
+levels-rows (tooManyRows first) e = cc
 
 module _ (o : ExtractOptions) where
   levels-serialized : (es : List Entry) → levelsOf (serialized o es) ≡ levelsAfter o es

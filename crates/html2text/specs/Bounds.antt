@@ -1,13 +1,18 @@
 -- How large the numbers of a run can grow: with at most 40,000 events, each of which adds at most 25,165,900 bytes, all of them fit a word.
 use mathlib.Core.Path.{_≡_}
+use mathlib.Core.Bool.{Bool}
 use mathlib.Core.List.{List, [], _∷_}
 use Prim.Native.Nat.{ℕ, _+_, _*_, _≤_}
 use lib.ListN.{length, getD}
+use Rattle.common.specs.Bytes.{Bytes}
 use Rattle.options.specs.declared.ExtractOptions.{ExtractOptions}
+use Rattle.sheet.specs.declared.line.Layout.{Layout}
+use Rattle.tree.specs.Page.{nodeAt, pageOf}
 use Rattle.html2text.specs.Collect.{Event, added}
 use Rattle.html2text.specs.Extract.{Run, going, tooManyLevels, tooManyRows}
 use Rattle.html2text.specs.Fused.{Fused, idle, closed, fedAll}
 use Rattle.html2text.specs.Serialize.{State}
+use Rattle.html2text.specs.Walk.{events, treeOf}
 
 -- twice the most rows of a sheet
 abbrev pub mostEvents : ℕ
@@ -59,3 +64,16 @@ EachAdds o (e ∷ es) = Adds o e × EachAdds o es
 pub record RunBounded (o : ExtractOptions) (es : List Event) : Type 0 where
   pub fed : Bounded (length es) (fedAll o es idle)
   pub closing : Going (StateBounded (length es + 1)) (closed o (fedAll o es idle))
+
+-- part of the way along a run that ends as `whole`: `rest` is left of its events
+pub record Along (o : ExtractOptions) (whole : Fused) (rest : List Event) (F : Fused) : Type 0 where
+  pub count : ℕ
+  pub few : count + length rest ≤ mostEvents
+  pub bounded : Bounded count F
+  pub each : EachAdds o rest
+  pub same : fedAll o rest F ≡ whole
+
+-- what is to be shown of the events of an accepted sheet's page
+pub record EventsBounded (s : Bytes) (l : Layout) (hidden : ℕ → Bool) (o : ExtractOptions) : Type 0 where
+  pub few : length (events (nodeAt s l) hidden 0 (treeOf (pageOf s l))) ≤ mostEvents
+  pub each : EachAdds o (events (nodeAt s l) hidden 0 (treeOf (pageOf s l)))

@@ -34,12 +34,18 @@ pub data Run : Type 0 where
   tooManyRows : ℕ → Run
 
 -- "21: list depth would pass 1,024. Formatting Off never counts it."
+abbrev pub depthPasses : Formatting → ExtractNode → ℕ → Bool
+depthPasses f n depth = not (isOff f) && (not (n .end) && (changesLevel (n .tag) depth && leb 1024 depth))
+
 abbrev pub passesLevels : Formatting → ExtractNode → State → Bool
-passesLevels f n S = not (isOff f) && (not (n .end) && (changesLevel (n .tag) (S .depth) && leb 1024 (S .depth)))
+passesLevels f n S = depthPasses f n (S .depth)
 
 -- "22: open table rows would pass 1,024."
+abbrev pub rowsPass : ExtractNode → ℕ → Bool
+rowsPass n rows = isTr (n .tag) && (not (n .end) && leb 1024 rows)
+
 abbrev pub passesRows : ExtractNode → State → Bool
-passesRows n S = isTr (n .tag) && (not (n .end) && leb 1024 (length (S .rowHasCell)))
+passesRows n S = rowsPass n (length (S .rowHasCell))
 
 -- "second number: the node's line"; the header is line 0
 abbrev pub lineOf : Entry → ℕ
@@ -77,6 +83,9 @@ unfoldable pub longestNames : (ℕ → Node) → ℕ → ℕ
 longestNames nodeOf zero = 0
 longestNames nodeOf (suc k) = greater (longestNames nodeOf k) (namesLength (nodeOf k))
 
+abbrev pub workNeedOf : Page → ExtractOptions → List Entry → ℕ
+workNeedOf p o nodes = greater (longestText nodes) (cond (o .«main_content») (longestNames (p .node) (length (p .depths))) 0)
+
 -- ---- "The caller's 31 is tested after 21 and 22, 32 after 31."
 
 module _ (need passes : ℕ) where
@@ -113,7 +122,7 @@ module _ (filtered : ℕ → Bool) (p : Page) (o : ExtractOptions) where
   passes = visits (p .node) hidden (treeOf p)
 
   abbrev pub workNeed : ℕ
-  workNeed = greater (longestText entries) (cond (o .«main_content») (longestNames (p .node) (length (p .depths))) 0)
+  workNeed = workNeedOf p o entries
 
   unfoldable pub extraction : ℕ → ℕ → Extraction
   extraction out work = concluded workNeed passes (serialized o entries) out work

@@ -3,7 +3,6 @@ use mathlib.Core.Path.{_≡_}
 use mathlib.Core.Bool.{Bool, true, _&&_, _||_, not, cond}
 use mathlib.Core.List.{List, [], _∷_}
 use Prim.Native.Nat.{ℕ, suc, _+_, _-_}
-use lib.Dec.{leb}
 use lib.ListN.{length}
 use Rattle.common.specs.Bytes.{Bytes}
 use Rattle.options.specs.Options.{isOff}
@@ -12,7 +11,7 @@ use Rattle.options.specs.declared.Formatting.{Formatting}
 use Rattle.tags.specs.Tags.{isTr}
 use Rattle.writer.specs.Out.{greater}
 use Rattle.html2text.specs.Collect.{Event, Entry, tagNumber, pushesAfter, pushedNode, marked, added, collectAll}
-use Rattle.html2text.specs.Extract.{Run, going, tooManyLevels, tooManyRows, lineOf, serialized, longestText}
+use Rattle.html2text.specs.Extract.{Run, going, tooManyLevels, tooManyRows, depthPasses, rowsPass, lineOf, serialized, longestText}
 use Rattle.html2text.specs.Fused.{Fused, idle}
 use Rattle.html2text.specs.Serialize.{State, changesLevel, step}
 use Rattle.html2text.specs.declared.ExtractNode.{ExtractNode}
@@ -28,14 +27,6 @@ depthAfter f n depth = recounted (not (isOff f) && changesLevel (n .tag) depth) 
 
 abbrev pub rowsAfter : ExtractNode → ℕ → ℕ
 rowsAfter n rows = recounted (isTr (n .tag)) (n .end) rows
-
--- "21: list depth would pass 1,024. Formatting Off never counts it."
-abbrev pub depthPasses : Formatting → ExtractNode → ℕ → Bool
-depthPasses f n depth = not (isOff f) && (not (n .end) && (changesLevel (n .tag) depth && leb 1024 depth))
-
--- "22: open table rows would pass 1,024."
-abbrev pub rowsPass : ExtractNode → ℕ → Bool
-rowsPass n rows = isTr (n .tag) && (not (n .end) && leb 1024 rows)
 
 -- what is to be shown of a step, whatever the text
 pub record StepLevels (f : Formatting) (bullets : Bool) (n : ExtractNode) (text : Bytes) (S : State) : Type 0 where

@@ -1,1 +1,2 @@
+pub mod DemandsLaws
 pub mod PagesLaws

@@ -12,6 +12,7 @@ use Rattle.tree.specs.Forest.{preorder}
 use Rattle.tree.specs.Node.{tag, attribute}
 use Rattle.tree.specs.Page.{kindOf, nodeAt}
 use Rattle.tree.specs.Rows.{build, numbered, scanOf}
+use Rattle.tree.specs.TextLength.{textLength}
 use Rattle.tree.specs.TextContent.{textData, concatenated, textContent}
 use Rattle.tags.specs.Tags.{isBlock, tagNames, tagOf, nameOf}
 use Rattle.tags.specs.Words.{firstWord, otherWords, words, oneOf, numberFrom}
@@ -20,15 +21,14 @@ use Rattle.writer.specs.Out.{greater, push, pushAll, strip}
 use Rattle.regex.specs.Match.{fit, finds}
 use Rattle.regex.specs.Regex.{lower, isDash, isHexDigit, inClass, word, exact}
 use Rattle.patterns.specs.Patterns.{patterns}
-use Rattle.links.specs.Links.{isLink, textBytes, linksAmong, linkBytes, measureOf, linkCluster}
+use Rattle.links.specs.Links.{isLink, linksAmong, linkBytes, measureOf, linkCluster}
 use Rattle.filters.specs.Filters.{hiddenByAttribute, notDisplayed, skipLink, signinMetaOrSocial, adAttribute, logoOrAd, notBlock, relMain, roleOutside, commentSection, article, landmark, byBlock, byClassAndId, byAttributes, byName, isMainContent, filterDepth, filtered}
 use Rattle.filters.specs.Footer.{isBody, isNotText, bodyFrom, followedFrom}
 use Rattle.filters.specs.Icon.{inLegacyRange, inPrivateUse, isIcon}
 use Rattle.html2text.specs.Collect.{addedByElement, added, collect, collectAll}
-use Rattle.html2text.specs.Extract.{serialized, longestText, namesLength, longestNames, extraction, outAfter}
+use Rattle.html2text.specs.Extract.{serialized, longestText, namesLength, longestNames, extraction, outAfter, extractionOf, outAfterOf}
 use Rattle.html2text.specs.Serialize.{endsBlank, separated, marginOut, margin, rows, between, besideCell, inRow, cell, countUncollapsed, level, numberOf, item, itemOut, htmlItem, htmlPre, htmlBr, htmlMarks, beforeTag, tagOut, htmlTag, blockMargin, indentText, lead, putText, afterOff, afterBasic, finishHtml, afterHtml, stepBy}
 use Rattle.html2text.specs.Walk.{events, visits}
-use Rattle.reader.specs.Extraction.{extractionOf, outAfterOf}
 use Rattle.reader.specs.Pages.{cases, allRight, line, attributePool, poolOf, nodeLines, linesOf, attributeLines, attributeCount, sheetOf, PagesRight}
 
 pub pages-right : PagesRight
@@ -54,7 +54,7 @@ unfolding
     fit finds
     lower isDash isHexDigit inClass word exact
     patterns
-    isLink textBytes linksAmong linkBytes measureOf linkCluster
+    isLink textLength linksAmong linkBytes measureOf linkCluster
     hiddenByAttribute notDisplayed skipLink signinMetaOrSocial adAttribute logoOrAd notBlock relMain roleOutside commentSection article landmark byBlock byClassAndId byAttributes byName isMainContent filterDepth filtered
     isBody isNotText bodyFrom followedFrom
     inLegacyRange inPrivateUse isIcon
