@@ -1,5 +1,5 @@
 #!/usr/bin/env python3
-"""Wrong readings of the Rust, each an edit of oracle/reference.py: does the sample of crates/pages_replay tell it from the right one?
+"""Wrong readings of the Rust, each an edit of oracle/reference.py: does the sample of oracle/pages_replay tell it from the right one?
 Use: wrong_readings.py [NAME]
 Ends with 1 if one of them is not told apart. The last list has edits that no sheet can tell apart."""
 import os
