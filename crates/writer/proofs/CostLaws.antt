@@ -1,12 +1,14 @@
 -- How far a function that writes can raise the greatest length.
 use mathlib.Core.Path.{ap}
+use mathlib.Core.Bool.{Bool, cond}
 use Prim.Native.Nat.{ℕ, _+_, _≤_}
 use native.Mathlib.Omega.{arith}
 use lib.ListN.{length, length-append}
 use Rattle.common.specs.Bytes.{Bytes}
+use Rattle.common.proofs.Choice.{by-cond}
 use Rattle.text.specs.Text.{isSpace}
 use Rattle.text.proofs.TrimLaws.{rstrip-length}
-use Rattle.writer.specs.Out.{Out, pushAll, strip}
+use Rattle.writer.specs.Out.{Out, greater, pushAll, strip}
 use Rattle.writer.proofs.OutLaws.{greater-max, push-all-text, push-all-peak}
 
 -- by at most c; and the length stays at most the greatest
@@ -30,3 +32,15 @@ costs-strip = record { below = λ o h. omega (arith, rstrip-length isSpace (o .t
 
 pub costs-then : {F G : Out → Out} {c d : ℕ} → Costs F c → Costs G d → Costs (λ o. G (F o)) (c + d)
 costs-then {F} a b = record { below = λ o h. b .below (F o) (a .below o h); most = λ o h. omega (arith, a .most o h, b .most (F o) (a .below o h)) }
+
+pub costs-cond : {F G : Out → Out} {c d : ℕ} (t : Out → Bool) → Costs F c → Costs G d → Costs (λ o. cond (t o) (F o) (G o)) (greater c d)
+costs-cond {c = c} {d = d} t a b =
+    let m = greater-max c d in
+    record {
+      below = λ o h. by-cond (λ (x : Out). length (x .text) ≤ x .peak) (t o) (λ e. a .below o h) (λ e. b .below o h);
+      most = λ o h. by-cond (λ (x : Out). x .peak ≤ o .peak + greater c d) (t o) (λ e. omega (arith, a .most o h)) (λ e. omega (arith, b .most o h));
+    }
+
+-- more is enough
+pub costs-more : {F : Out → Out} {c d : ℕ} → c ≤ d → Costs F c → Costs F d
+costs-more le a = record { below = a .below; most = λ o h. omega (arith, a .most o h) }

@@ -1,11 +1,12 @@
 -- One function that writes after another, and a loop of them: what they do, and that room for the whole is room for each part.
 use mathlib.Core.Path.{_≡_, refl, sym, ap, subst, _∙_}
-use mathlib.Core.Bool.{Bool}
+use mathlib.Core.Bool.{Bool, cond}
 use mathlib.Core.List.{[], _++_}
 use Prim.Native.Nat.{_≤_}
 use native.Mathlib.Omega.{arith}
 use lib.ListN.{length}
 use Rattle.common.specs.Bytes.{Bytes}
+use Rattle.common.proofs.Choice.{by-cond}
 use Rattle.writer.specs.Out.{Out, pushAll, strip}
 use Rattle.writer.specs.Writing.{Held, Room, Ready, Does}
 use Rattle.writer.specs.declared.Writer.{Writer}
@@ -28,6 +29,9 @@ grows-strip = record { grow = λ o. omega arith }
 
 pub grows-then : {F G : Out → Out} → Grows F → Grows G → Grows (λ o. G (F o))
 grows-then {F} a b = record { grow = λ o. omega (arith, a .grow o, b .grow (F o)) }
+
+pub grows-cond : {F G : Out → Out} (t : Out → Bool) → Grows F → Grows G → Grows (λ o. cond (t o) (F o) (G o))
+grows-cond t f g = record { grow = λ o. by-cond (λ (x : Out). o .peak ≤ x .peak) (t o) (λ e. f .grow o) (λ e. g .grow o) }
 
 -- ---- nothing, and one after another
 

@@ -26,114 +26,58 @@ abbrev put-number-below : ℕ → In 1 put-number-kinds.ps
 put-number-below t =
     and 1 put-number-kinds.ps (falls 1 put-number-kinds.ps _<_ μ-put-number t) put-number.Pre
 
-put-number-cast-push : (t : ℕ) → put-number-lts.Need-cast-push (
-  push-reads.Asked,
-  push-reads.Learnt,
-  put-number-below t,
-  put-number.Post,
-) (put-number-at t) put-number.Post
-put-number-cast-push t c = omega arith
+abbrev claims : ℕ → put-number-lts.Claims
+claims t = (push-reads.Asked, push-reads.Learnt, put-number-below t, put-number.Post)
 
-put-number-add-push : (t : ℕ) → put-number-lts.Need-add-push (
-  push-reads.Asked,
-  push-reads.Learnt,
-  put-number-below t,
-  put-number.Post,
-) (put-number-at t) put-number.Post
-put-number-add-push t c = omega arith
+module _ (t : ℕ) where
+  cast-push : put-number-lts.Need-cast-push (claims t) (put-number-at t) put-number.Post
+  cast-push c = omega arith
 
-put-number-push-requires : (t : ℕ) → put-number-lts.Need-push-requires (
-  push-reads.Asked,
-  push-reads.Learnt,
-  put-number-below t,
-  put-number.Post,
-) (put-number-at t) put-number.Post
-put-number-push-requires t c κs = ready-same (digits-one _ (c .before .if1 .taken)) (c .before .before .before .pre .1)
+  add-push : put-number-lts.Need-add-push (claims t) (put-number-at t) put-number.Post
+  add-push c = omega arith
 
-put-number-same-length : (t : ℕ) → put-number-lts.Need-same-length (
-  push-reads.Asked,
-  push-reads.Learnt,
-  put-number-below t,
-  put-number.Post,
-) (put-number-at t) put-number.Post
-put-number-same-length t c = search needs
+  push-requires : put-number-lts.Need-push-requires (claims t) (put-number-at t) put-number.Post
+  push-requires c κs = ready-same (digits-one _ (c .before .if1 .taken)) (c .before .before .before .pre .1)
 
-put-number-returns : (t : ℕ) → put-number-lts.Need-returns (
-  push-reads.Asked,
-  push-reads.Learnt,
-  put-number-below t,
-  put-number.Post,
-) (put-number-at t) put-number.Post
-put-number-returns t c = does-same (digits-one _ (c .before .before .before .before .if1 .taken)) (c .before .before .push .ensures)
+  same-length : put-number-lts.Need-same-length (claims t) (put-number-at t) put-number.Post
+  same-length c = search needs
 
-put-number-put-number-requires : (t : ℕ) → put-number-lts.Need-put-number-requires (
-  push-reads.Asked,
-  push-reads.Learnt,
-  put-number-below t,
-  put-number.Post,
-) (put-number-at t) put-number.Post
-put-number-put-number-requires t c κs =
-    let e = c .before .before .before .pre .0 in
-    let n = c .before .before .before .args .n in
-    (omega arith, ready-left (digits (n / 10)) ((48 + n % 10) ∷ []) (ready-same (digits-more n (c .before .if1 .left)) (c .before .before .before .pre .1)))
+  returns : put-number-lts.Need-returns (claims t) (put-number-at t) put-number.Post
+  returns c = does-same (digits-one _ (c .before .before .before .before .if1 .taken)) (c .before .before .push .ensures)
 
-put-number-cast-push-2 : (t : ℕ) → put-number-lts.Need-cast-push-2 (
-  push-reads.Asked,
-  push-reads.Learnt,
-  put-number-below t,
-  put-number.Post,
-) (put-number-at t) put-number.Post
-put-number-cast-push-2 t c = omega arith
+  put-number-requires : put-number-lts.Need-put-number-requires (claims t) (put-number-at t) put-number.Post
+  put-number-requires c κs =
+      let e = c .before .before .before .pre .0 in
+      let n = c .before .before .before .args .n in
+      (omega arith, ready-left (digits (n / 10)) ((48 + n % 10) ∷ []) (ready-same (digits-more n (c .before .if1 .left)) (c .before .before .before .pre .1)))
 
-put-number-add-push-2 : (t : ℕ) → put-number-lts.Need-add-push-2 (
-  push-reads.Asked,
-  push-reads.Learnt,
-  put-number-below t,
-  put-number.Post,
-) (put-number-at t) put-number.Post
-put-number-add-push-2 t c = omega arith
+  cast-push-2 : put-number-lts.Need-cast-push-2 (claims t) (put-number-at t) put-number.Post
+  cast-push-2 c = omega arith
 
-put-number-push-requires-2 : (t : ℕ) → put-number-lts.Need-push-requires-2 (
-  push-reads.Asked,
-  push-reads.Learnt,
-  put-number-below t,
-  put-number.Post,
-) (put-number-at t) put-number.Post
-put-number-push-requires-2 t c κs = ready-right _ _ (c .before .before .before .put-number .ensures) (ready-same (digits-more _ (c .before .before .before .before .before .if1 .left)) (c .before .before .before .before .before .before .before .pre .1))
+  add-push-2 : put-number-lts.Need-add-push-2 (claims t) (put-number-at t) put-number.Post
+  add-push-2 c = omega arith
 
-put-number-same-length-2 : (t : ℕ) → put-number-lts.Need-same-length-2 (
-  push-reads.Asked,
-  push-reads.Learnt,
-  put-number-below t,
-  put-number.Post,
-) (put-number-at t) put-number.Post
-put-number-same-length-2 t c = search needs
+  push-requires-2 : put-number-lts.Need-push-requires-2 (claims t) (put-number-at t) put-number.Post
+  push-requires-2 c κs = ready-right _ _ (c .before .before .before .put-number .ensures) (ready-same (digits-more _ (c .before .before .before .before .before .if1 .left)) (c .before .before .before .before .before .before .before .pre .1))
 
-put-number-returns-2 : (t : ℕ) → put-number-lts.Need-returns-2 (
-  push-reads.Asked,
-  push-reads.Learnt,
-  put-number-below t,
-  put-number.Post,
-) (put-number-at t) put-number.Post
-put-number-returns-2 t c = does-same (digits-more _ (c .before .before .before .before .before .before .before .before .if1 .left)) (does-append _ _ (c .before .before .before .before .before .before .put-number .ensures) (c .before .before .push2 .ensures))
+  same-length-2 : put-number-lts.Need-same-length-2 (claims t) (put-number-at t) put-number.Post
+  same-length-2 c = search needs
+
+  returns-2 : put-number-lts.Need-returns-2 (claims t) (put-number-at t) put-number.Post
+  returns-2 c = does-same (digits-more _ (c .before .before .before .before .before .before .before .before .if1 .left)) (does-append _ _ (c .before .before .before .before .before .before .put-number .ensures) (c .before .before .push2 .ensures))
 
 pub +put-number-spec : {M : Type 1} → statement M
-+put-number-spec = close μ-put-number λ t. put-number-lts.spec (
-  push-reads.Asked,
-  push-reads.Learnt,
-  put-number-below t,
-  put-number.Post,
-)
++put-number-spec = close μ-put-number λ t. put-number-lts.spec (claims t)
     (put-number-at t)
     put-number.Post
-    (put-number-cast-push t)
-    (put-number-add-push t)
-    (put-number-push-requires t)
-    (put-number-same-length t)
-    (put-number-returns t)
-    (put-number-put-number-requires t)
-    (put-number-cast-push-2 t)
-    (put-number-add-push-2 t)
-    (put-number-push-requires-2 t)
-    (put-number-same-length-2 t)
-    (put-number-returns-2 t)
+    (cast-push t)
+    (add-push t)
+    (push-requires t)
+    (same-length t)
+    (returns t)
+    (put-number-requires t)
+    (cast-push-2 t)
+    (add-push-2 t)
+    (push-requires-2 t)
+    (same-length-2 t)
+    (returns-2 t)

@@ -1,0 +1,154 @@
+-- A step: rows and cells first, then what the formatting asks for.
+use mathlib.Core.Path.{_≡_, refl, sym, _∙_}
+use mathlib.Core.Bool.{Bool, true, false, _&&_}
+use mathlib.Core.List.{List}
+use Prim.Native.Nat.{ℕ, _-_, _≤_, _<_}
+use native.Mathlib.Omega.{arith}
+use lib.Dec.{eqb}
+use lib.ListN.{length, getD}
+use Rattle.common.specs.Bytes.{Bytes}
+use Rattle.common.proofs.Choice.{by-cond}
+use Rattle.options.specs.Options.{isOff}
+use Rattle.options.specs.declared.Formatting.{Formatting}
+use Rattle.options.specs.declared.Formatting.the-variants.{Off, Basic, MinimalHtml}
+use Rattle.tags.specs.Tags.{isTr, isCell}
+use Rattle.html2text.specs.Serialize.{State, margin, rows, besideCell, inRow, cell, item, blockMargin, htmlMarks, putText, finishHtml, afterOff, afterBasic, afterHtml, stepBy, after, step, collapses}
+use Rattle.html2text.specs.declared.ExtractNode.{ExtractNode}
+use Rattle.serializer.specs.Serializing.{Lent, lent, Stands, Able, Works, AbleCells, WorksCells, WorksRows, Limits, ListLimits, Numbers, levels}
+use Rattle.serializer.specs.declared.Serializer.{Serializer}
+use Rattle.serializer.proofs.HtmlLaws.{margins-marks, rises-html-marks, rises-finish, rises-rest}
+use Rattle.serializer.proofs.LevelLaws.{margins-levels, margins-item, rises-levels, rises-item}
+use Rattle.serializer.proofs.RowLaws.{rises-rows, rises-cell}
+use Rattle.serializer.proofs.StandsLaws.{depth-long}
+use Rattle.serializer.proofs.WorksLaws.{Rises, rises-then, rises-cond, works-then, works-by, able-first, able-by, able-then}
+
+-- ---- the three formattings, as their parts
+
+pub after-off-is : (bullets : Bool) (n : ExtractNode) (text : Bytes) (S : State) → afterOff bullets n text S ≡ putText true false bullets n (n .block) text (blockMargin (n .block) n S)
+unfolding afterOff
+after-off-is bullets n text S = refl
+
+pub after-basic-is : (bullets : Bool) (n : ExtractNode) (text : Bytes) (S : State) → afterBasic bullets n text S ≡ putText false true bullets n (n .block) text (blockMargin (n .block) n (item bullets n (levels n S)))
+unfolding afterBasic levels
+after-basic-is bullets n text S = refl
+
+pub after-html-is : (bullets : Bool) (n : ExtractNode) (text : Bytes) (S : State) → afterHtml bullets n text S ≡ finishHtml bullets n text (htmlMarks bullets n (levels n S))
+unfolding afterHtml levels
+after-html-is bullets n text S = refl
+
+pub rises-after : (f : Formatting) (bullets : Bool) (n : ExtractNode) (text : Bytes) → Rises (after f bullets n text)
+rises-after Off bullets n text = record { rise = λ S. rw (after-off-is bullets n text S) (rises-rest true false bullets n (n .block) text .rise S) }
+rises-after Basic bullets n text =
+    record { rise = λ S. rw (after-basic-is bullets n text S) (rises-then (rises-then (rises-levels n) (rises-item bullets n)) (rises-rest false true bullets n (n .block) text) .rise S) }
+rises-after MinimalHtml bullets n text =
+    record { rise = λ S. rw (after-html-is bullets n text S) (rises-then (rises-then (rises-levels n) (rises-html-marks bullets n)) (rises-finish bullets n text) .rise S) }
+
+pub margins-listed : (bullets : Bool) (n : ExtractNode) (S : State) → item bullets n (levels n S) .margins ≤ S .margins
+margins-listed bullets n S = omega (arith, margins-levels n S, margins-item bullets n (levels n S))
+
+pub margins-marked : (bullets : Bool) (n : ExtractNode) (S : State) → htmlMarks bullets n (levels n S) .margins ≤ S .margins
+margins-marked bullets n S = omega (arith, margins-levels n S, margins-marks bullets n (levels n S))
+
+-- ---- dropped or not
+
+module _ (off : Bool) (F : State → State) (n : ExtractNode) where
+  pub step-drops : (isCell (n .tag) && n .end) ≡ true → (S : State) → stepBy off F n S ≡ rows n S
+  unfolding stepBy
+  step-drops e S = rw e
+
+  pub step-goes : (isCell (n .tag) && n .end) ≡ false → (S : State) → stepBy off F n S ≡ F (cell off n (rows n S))
+  unfolding stepBy
+  step-goes e S = rw e
+
+-- the greatest length never falls
+pub rises-step : (f : Formatting) (bullets : Bool) (n : ExtractNode) (text : Bytes) → Rises (step f bullets n text)
+unfolding stepBy
+rises-step f bullets n text =
+    rises-cond (λ S. isCell (n .tag) && n .end) (rises-rows n) (rises-then (rises-then (rises-rows n) (rises-cell (isOff f) n)) (rises-after f bullets n text))
+
+-- ---- what rows and cells leave as it is
+
+pub record Kept (S T : State) : Type 0 where
+  pub depth : T .depth ≡ S .depth
+  pub uncollapsed : T .uncollapsed ≡ S .uncollapsed
+  pub margins : T .margins ≤ S .margins
+  pub numbering : T .numbering ≡ S .numbering
+
+kept : {S : State} → Kept S S
+kept = record { depth = refl; uncollapsed = refl; margins = omega arith; numbering = refl }
+
+kept-then : {S T R : State} → Kept S T → Kept T R → Kept S R
+kept-then a b = record { depth = b .depth ∙ a .depth; uncollapsed = b .uncollapsed ∙ a .uncollapsed; margins = omega (arith, a .margins, b .margins); numbering = b .numbering ∙ a .numbering }
+
+kept-rows : (n : ExtractNode) (S : State) → Kept S (rows n S)
+unfolding rows
+kept-rows n S =
+    by-cond (Kept S) (isTr (n .tag))
+    (λ e. by-cond (Kept S) (n .end) (λ f. record { depth = refl; uncollapsed = refl; margins = omega arith; numbering = refl }) (λ f. record { depth = refl; uncollapsed = refl; margins = omega arith; numbering = refl }))
+    (λ e. kept)
+
+kept-beside : (off : Bool) (S : State) → Kept S (besideCell off S)
+unfolding besideCell
+kept-beside off S =
+    by-cond (Kept S) (getD (S .rowHasCell) (length (S .rowHasCell) - 1) false) (λ e. record { depth = refl; uncollapsed = refl; margins = omega arith; numbering = refl }) (λ e. kept)
+
+kept-in-row : (off : Bool) (S : State) → Kept S (inRow off S)
+unfolding inRow
+kept-in-row off S =
+    by-cond (Kept S) (eqb (length (S .rowHasCell)) 0) (λ e. kept)
+    (λ e. let k = kept-beside off S in record { depth = k .depth; uncollapsed = k .uncollapsed; margins = k .margins; numbering = k .numbering })
+
+kept-margin : (bare off : Bool) (S : State) → Kept S (margin bare off S)
+unfolding margin
+kept-margin bare off S = record { depth = refl; uncollapsed = refl; margins = omega arith; numbering = refl }
+
+kept-cell : (off : Bool) (n : ExtractNode) (S : State) → Kept S (cell off n S)
+unfolding cell
+kept-cell off n S =
+    by-cond (Kept S) (isCell (n .tag)) (λ e. kept-then (kept-margin (collapses off n) off S) (kept-in-row off (margin (collapses off n) off S))) (λ e. kept)
+
+pub kept-before : (off : Bool) (n : ExtractNode) (S : State) → Kept S (cell off n (rows n S))
+kept-before off n S = kept-then (kept-rows n S) (kept-cell off n (rows n S))
+
+-- ---- behind rows and cells
+
+module _ {write : Bool} {s a : Serializer} {nums : List ℕ} {cells cells₁ : List Bool} {out : Bytes} (f : Formatting) (bullets : Bool) (n : ExtractNode) (text : Bytes)
+    (r : Able write s (lent nums cells out) (step f bullets n text)) (goes : (isCell (n .tag) && n .end) ≡ false) (dr : WorksRows s cells a cells₁ (rows n)) {off : Bool} (e : off ≡ isOff f) where
+  behind-rows : Able write a (lent nums cells₁ out) (λ S. after f bullets n text (cell (isOff f) n S))
+  behind-rows = able-then (dr .at write nums out) (able-by r (λ under S h. step-goes (isOff f) (after f bullets n text) n goes S))
+
+  pub cell-able : AbleCells write a cells₁ out (cell off n)
+  cell-able = rw e record { numbering = nums; able = able-first (rises-after f bullets n text) behind-rows }
+
+  module _ {b : Serializer} {cells₂ : List Bool} {out₁ : Bytes} (dc : WorksCells write a cells₁ out b cells₂ out₁ (cell off n)) where
+    cell-works : Works write a (lent nums cells₁ out) b (lent nums cells₂ out₁) (cell (isOff f) n)
+    cell-works = rw e at (dc .at nums)
+
+    before-works : Works write s (lent nums cells out) b (lent nums cells₂ out₁) (λ S. cell (isOff f) n (rows n S))
+    before-works = works-then (dr .at write nums out) cell-works
+
+    pub after-able : Able write b (lent nums cells₂ out₁) (after f bullets n text)
+    after-able = able-then cell-works behind-rows
+
+    pub after-works : {s′ : Serializer} {l : Lent} → Works write b (lent nums cells₂ out₁) s′ l (after f bullets n text) → Works write s (lent nums cells out) s′ l (step f bullets n text)
+    after-works d = works-by (works-then before-works d) (λ under S h. sym (step-goes (isOff f) (after f bullets n text) n goes S))
+
+    -- the numbers there
+    stands : Stands write (r .under) b (lent nums cells₂ out₁) (cell (isOff f) n (rows n (r .state)))
+    stands = before-works .run (r .under) (r .state) (r .stands)
+
+    same-depth : b .depth ≡ s .depth
+    same-depth = stands .depth ∙ kept-before (isOff f) n (r .state) .depth ∙ sym (r .stands .depth)
+
+    module _ (l : Limits f s nums cells n) where
+      pub margins-small : b .margins < 4611686018427387904
+      margins-small = omega (arith, l .margins, stands .margins, kept-before (isOff f) n (r .state) .margins, r .stands .margins)
+
+      uncollapsed-small : b .uncollapsed < 4611686018427387904
+      uncollapsed-small = omega (arith, l .uncollapsed, stands .uncollapsed, kept-before (isOff f) n (r .state) .uncollapsed, r .stands .uncollapsed)
+
+      pub list-limits : isOff f ≡ false → ListLimits b nums n
+      list-limits on = record { margins = margins-small; uncollapsed = uncollapsed-small; level = rw same-depth (l .level on) }
+
+      pub numbers : Numbers b nums
+      numbers = record { within = omega (arith, same-depth, depth-long r); small = λ i h. l .numbers i (omega (arith, same-depth)) }

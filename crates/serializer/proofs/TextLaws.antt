@@ -1,0 +1,227 @@
+-- The text of an entry: whether anything of it is shown, its indentation and prefix, and the text behind them.
+use mathlib.Core.Path.{_≡_, refl, sym, ap, _∙_}
+use mathlib.Core.Bool.{Bool, true, false, _&&_, _||_, not}
+use mathlib.Core.List.{List, [], _∷_, _++_}
+use Prim.Native.Nat.{ℕ, suc, _+_, _*_, _≤_, _<_}
+use native.Mathlib.Numerals.{add-one}
+use native.Mathlib.Omega.{arith}
+use lib.Dec.{ltb}
+use lib.ListN.{length, getD, drop, replicate, length-replicate, drop-of-length-le}
+use lib.Seq.{drop-cons}
+use borrow.Author.Tests.{lt-ltb}
+use Rattle.common.specs.Bytes.{Bytes}
+use Rattle.common.proofs.Choice.{by-test}
+use Rattle.text.specs.Text.{isSpace, squeezed, collapseBy, collapseFrom}
+use Rattle.text.proofs.CollapseLaws.{trim-start-collapse}
+use Rattle.text.proofs.SpaceLaws.{space-32}
+use Rattle.writer.specs.Out.{Out, pushAll}
+use Rattle.writer.specs.Shown.{shown}
+use Rattle.writer.specs.Writing.{Ready, Does}
+use Rattle.writer.specs.declared.Writer.{Writer}
+use Rattle.writer.proofs.DoesLaws.{grows-push-all}
+use Rattle.writer.proofs.HeldLaws.{run-small}
+use Rattle.writer.proofs.ShownLaws.{shown-shortened}
+use Rattle.html2text.specs.Serialize.{State, onOut, withPrefix, withBullet, withUncollapsed, one, isEmpty, collapses, margin, trims, shortened, indentText, lead, putText}
+use Rattle.html2text.specs.declared.ExtractNode.{ExtractNode}
+use Rattle.serializer.specs.Serializing.{setWriter, setPrefix, setBullet, setUncollapsed, Lent, lent, Stands, AbleOut, WorksAlone, WorksOut, prefixText, allBlank}
+use Rattle.serializer.specs.declared.Prefix.the-variants.{Nothing}
+use Rattle.serializer.specs.declared.Serializer.{Serializer}
+use Rattle.serializer.proofs.MarginLaws.{rises-margin}
+use Rattle.serializer.proofs.RowLaws.{ends-blank}
+use Rattle.serializer.proofs.StandsLaws.{stands-prefix, stands-bullet, stands-uncollapsed}
+use Rattle.serializer.proofs.WorksLaws.{Rises, rises-none, rises-then, rises-cond, out-none, out-alone, out-first, out-able-by, out-by, out-then, text-ready, text-works}
+
+-- ---- whether a text is blank, as a loop has it
+
+module _ (s : Bytes) (i : ℕ) (h : i < length s) where
+  pub blank-next : isSpace (getD s i 0) ≡ true → allBlank (drop i s) ≡ allBlank (drop (i + 1) s)
+  blank-next e = rw (add-one, drop-cons s i 0 h, e)
+
+  pub blank-not : isSpace (getD s i 0) ≡ false → allBlank (drop i s) ≡ false
+  blank-not e = rw (drop-cons s i 0 h, e)
+
+pub blank-done : (s : Bytes) (i : ℕ) → length s ≤ i → allBlank (drop i s) ≡ true
+blank-done s i h = rw (drop-of-length-le s {i = i} h)
+
+-- ---- whether anything is left
+
+empty-from : (s : Bytes) → isEmpty (collapseFrom isSpace true s) ≡ allBlank s
+unfolding collapseFrom
+empty-from [] = refl
+empty-from (c ∷ s) = go (isSpace c) (empty-from s)
+  where
+    go : (b : Bool) → isEmpty (collapseFrom isSpace true s) ≡ allBlank s → isEmpty (squeezed b true c ++ collapseFrom isSpace b s) ≡ (b && allBlank s)
+    go true e = e
+    go false e = refl
+
+pub empty-trimmed : (s : Bytes) → isEmpty (shortened true true s) ≡ allBlank s
+unfolding collapseBy
+empty-trimmed s = ap isEmpty (trim-start-collapse isSpace (space-32 32 refl) false s) ∙ empty-from s
+
+pub empty-collapsed : (s : Bytes) → isEmpty (shortened true false s) ≡ isEmpty s
+unfolding collapseBy collapseFrom
+empty-collapsed [] = refl
+empty-collapsed (c ∷ s) = go (isSpace c)
+  where
+    go : (b : Bool) → isEmpty (squeezed b false c ++ collapseFrom isSpace b s) ≡ false
+    go true = refl
+    go false = refl
+
+pub empty-length : (s : Bytes) → ltb 0 (length s) ≡ not (isEmpty s)
+empty-length [] = refl
+empty-length (c ∷ s) = lt-ltb 0 (suc (length s)) (omega arith)
+
+-- ---- where the leading blanks go
+
+trims-is : {write : Bool} {under : Bytes} {s : Serializer} {a : Lent} {S : State} (block : Bool) → Stands write under s a S → trims block S ≡ (block || ltb (s .writer .kept) (s .writer .len))
+trims-is {S = S} block h = rw (h .held .len, h .held .kept, ends-blank (S .out .text))
+
+-- ---- indentation
+
+abbrev pub width : Bool → Serializer → ℕ
+width bullets s = (s .depth + one (bullets && not (s .bullet))) * 2
+
+abbrev widthOf : Bool → State → ℕ
+widthOf bullets S = (S .depth + one (bullets && not (S .bullet))) * 2
+
+bullet-alone : (s : Serializer) (b : Bool) → WorksAlone s (setBullet b s) (withBullet b)
+bullet-alone s b = record { at = λ write a. record { run = λ under S h. stands-bullet h b } }
+
+abbrev indentation : Bool → State → Out → Out
+indentation bullets S = pushAll (replicate (widthOf bullets S) 0x20)
+
+module _ {write : Bool} {s : Serializer} (basic bullets : Bool) where
+  test-is : {t : Bool} → (basic && ltb 0 (s .depth)) ≡ t → {under : Bytes} {a : Lent} {S : State} → Stands write under s a S → (basic && ltb 0 (S .depth)) ≡ t
+  test-is e h = ap (λ (d : ℕ). basic && ltb 0 d) (sym (h .depth)) ∙ e
+
+  width-is : (under : Bytes) (a : Lent) (S : State) → Stands write under s a S → indentation bullets S (S .out) ≡ pushAll (replicate (width bullets s) 0x20) (S .out)
+  width-is under a S h = rw (h .depth, h .bullet)
+
+  module _ {buf : Bytes} (e : (basic && ltb 0 (s .depth)) ≡ true) where
+    indent-is : (numbering : List ℕ) (cells : List Bool) (under : Bytes) (S : State) → Stands write under s (lent numbering cells buf) S → indentText basic bullets S ≡ withBullet false (onOut (indentation bullets S) S)
+    unfolding indentText
+    indent-is numbering cells under S h = rw (test-is e h)
+
+    pub indent-ready : AbleOut write s buf (indentText basic bullets) → Ready write (s .writer) buf (pushAll (replicate (width bullets s) 0x20))
+    indent-ready r = text-ready (indentation bullets) width-is (out-first {G = withBullet false} (record { rise = λ S. omega arith }) (out-able-by r indent-is))
+
+    pub indent-small : AbleOut write s buf (indentText basic bullets) → width bullets s < 4611686018427387904
+    indent-small r = omega (arith, run-small (replicate (width bullets s) 0x20) (indent-ready r), length-replicate {A = ℕ} (width bullets s) 0x20)
+
+    pub indent-works : {w : Writer} {buf′ : Bytes} → Does write (s .writer) buf w buf′ (pushAll (replicate (width bullets s) 0x20)) → WorksOut write s buf (setBullet false (setWriter w s)) buf′ (indentText basic bullets)
+    indent-works d = out-by (out-then (text-works (indentation bullets) width-is d) (out-alone (bullet-alone _ false))) (λ numbering cells under S h. sym (indent-is numbering cells under S h))
+
+  pub indent-none : {buf : Bytes} → (basic && ltb 0 (s .depth)) ≡ false → WorksOut write s buf s buf (indentText basic bullets)
+  unfolding indentText
+  indent-none e = out-by out-none (λ numbering cells under S h. sym (rw (test-is e h)))
+
+pub rises-indent : (basic bullets : Bool) → Rises (indentText basic bullets)
+unfolding indentText
+rises-indent basic bullets =
+    rises-cond (λ S. basic && ltb 0 (S .depth)) (record { rise = λ S. grows-push-all (replicate (widthOf bullets S) 0x20) .grow (S .out) }) rises-none
+
+-- ---- the prefix
+
+unfoldable pub prefixOut : State → State
+prefixOut S = withPrefix [] (onOut (pushAll (S .prefix)) S)
+
+pub lead-is : (basic bullets : Bool) (S : State) → lead basic bullets S ≡ prefixOut (indentText basic bullets S)
+unfolding lead prefixOut
+lead-is basic bullets S = refl
+
+prefix-alone : (s : Serializer) → WorksAlone s (setPrefix Nothing s) (withPrefix [])
+prefix-alone s = record { at = λ write a. record { run = λ under S h. stands-prefix h refl } }
+
+module _ {write : Bool} {s : Serializer} where
+  prefix-is : (under : Bytes) (a : Lent) (S : State) → Stands write under s a S → pushAll (S .prefix) (S .out) ≡ pushAll (prefixText (s .prefix)) (S .out)
+  prefix-is under a S h = rw (h .prefix)
+
+  pub prefix-ready : {buf : Bytes} → AbleOut write s buf prefixOut → Ready write (s .writer) buf (pushAll (prefixText (s .prefix)))
+  unfolding prefixOut
+  prefix-ready r = let k = r .able in record { under = k .under; out = k .state .out; held = k .stands .held; room = rw (k .stands .prefix) (k .room) }
+
+  pub prefix-works : {buf : Bytes} {w : Writer} {buf′ : Bytes} → Does write (s .writer) buf w buf′ (pushAll (prefixText (s .prefix))) → WorksOut write s buf (setPrefix Nothing (setWriter w s)) buf′ prefixOut
+  unfolding prefixOut
+  prefix-works d = out-then (text-works (λ S. pushAll (S .prefix)) prefix-is d) (out-alone (prefix-alone _))
+
+pub rises-prefix : Rises prefixOut
+unfolding prefixOut
+rises-prefix = record { rise = λ S. grows-push-all (S .prefix) .grow (S .out) }
+
+rises-lead : (basic bullets : Bool) → Rises (lead basic bullets)
+rises-lead basic bullets = record { rise = λ S. rw (lead-is basic bullets S) (rises-then (rises-indent basic bullets) rises-prefix .rise S) }
+
+-- ---- the text
+
+pub clear-alone : (s : Serializer) → WorksAlone s (setUncollapsed 0 s) (withUncollapsed 0)
+clear-alone s = record { at = λ write a. record { run = λ under S h. stands-uncollapsed h refl } }
+
+pub rises-clear : Rises (withUncollapsed 0)
+rises-clear = record { rise = λ S. omega arith }
+
+unfoldable pub showText : Bool → Bool → Bool → Bytes → State → State
+showText squeeze trim escapes text = onOut (pushAll (shown squeeze trim escapes text))
+
+pub rises-show : (squeeze trim escapes : Bool) (text : Bytes) → Rises (showText squeeze trim escapes text)
+unfolding showText
+rises-show squeeze trim escapes text = record { rise = λ S. grows-push-all (shown squeeze trim escapes text) .grow (S .out) }
+
+module _ {write : Bool} {s : Serializer} {buf : Bytes} (squeeze trim escapes : Bool) (text : Bytes) where
+  pub show-ready : AbleOut write s buf (showText squeeze trim escapes text) → Ready write (s .writer) buf (pushAll (shown squeeze trim escapes text))
+  unfolding showText
+  show-ready r = text-ready (λ S. pushAll (shown squeeze trim escapes text)) (λ under a S h. refl) r
+
+  pub show-works : {w : Writer} {buf′ : Bytes} → Does write (s .writer) buf w buf′ (pushAll (shown squeeze trim escapes text)) → WorksOut write s buf (setWriter w s) buf′ (showText squeeze trim escapes text)
+  unfolding showText
+  show-works d = text-works (λ S. pushAll (shown squeeze trim escapes text)) (λ under a S h. refl) d
+
+-- what is behind the margin
+pub rises-behind : (basic bullets squeeze trim escapes : Bool) (text : Bytes) → Rises (λ S. showText squeeze trim escapes text (lead basic bullets (withUncollapsed 0 S)))
+rises-behind basic bullets squeeze trim escapes text =
+    rises-then (rises-then rises-clear (rises-lead basic bullets)) (rises-show squeeze trim escapes text)
+
+module _ (off basic bullets : Bool) (n : ExtractNode) (block : Bool) (text : Bytes) (S : State) where
+  put-text-is : isEmpty (shortened (collapses off n) (trims block S) text) ≡ false
+      → putText off basic bullets n block text S ≡ showText (collapses off n) (trims block S) (n .escape) text (lead basic bullets (withUncollapsed 0 (margin (collapses off n) off S)))
+  unfolding putText showText
+  put-text-is e = rw (e, shown-shortened (collapses off n) (trims block S) (n .escape) text)
+
+  put-text-empty : isEmpty (shortened (collapses off n) (trims block S) text) ≡ true → putText off basic bullets n block text S ≡ S
+  unfolding putText
+  put-text-empty e = rw e
+
+pub rises-put-text : (off basic bullets : Bool) (n : ExtractNode) (block : Bool) (text : Bytes) → Rises (putText off basic bullets n block text)
+rises-put-text off basic bullets n block text =
+    record {
+      rise = λ S. by-test (isEmpty (shortened (collapses off n) (trims block S) text))
+          (λ e. rw (put-text-empty off basic bullets n block text S e) (omega arith))
+          (λ e. rw (put-text-is off basic bullets n block text S e)
+          (rises-then (rises-margin (collapses off n) off) (rises-behind basic bullets (collapses off n) (trims block S) (n .escape) text) .rise S));
+    }
+
+module _ {write : Bool} {s : Serializer} (off basic bullets : Bool) (n : ExtractNode) (block : Bool) (text : Bytes) {squeeze trim shows : Bool}
+    (squeeze-is : squeeze ≡ collapses off n) (trim-is : trim ≡ (block || ltb (s .writer .kept) (s .writer .len))) (shows-is : shows ≡ not (isEmpty (shortened squeeze trim text))) where
+  left-is : {t : Bool} → shows ≡ not t → {under : Bytes} {a : Lent} {S : State} → Stands write under s a S → isEmpty (shortened (collapses off n) (trims block S) text) ≡ t
+  left-is {t} e {S = S} h = rw (trims-is block h, ← trim-is, ← squeeze-is) (not-same (sym shows-is ∙ e))
+    where
+      not-same : {x y : Bool} → not x ≡ not y → x ≡ y
+      not-same {x = true} {y = true} q = refl
+      not-same {x = true} {y = false} q = sym q
+      not-same {x = false} {y = true} q = sym q
+      not-same {x = false} {y = false} q = refl
+
+  module _ {buf : Bytes} (e : shows ≡ true) where
+    behind-is : (numbering : List ℕ) (cells : List Bool) (under : Bytes) (S : State) → Stands write under s (lent numbering cells buf) S
+        → putText off basic bullets n block text S ≡ showText squeeze trim (n .escape) text (lead basic bullets (withUncollapsed 0 (margin squeeze off S)))
+    behind-is numbering cells under S h =
+        put-text-is off basic bullets n block text S (left-is e h) ∙ rw (trims-is block h, ← trim-is, ← squeeze-is)
+
+    pub put-text-able : AbleOut write s buf (putText off basic bullets n block text) → AbleOut write s buf (λ S. showText squeeze trim (n .escape) text (lead basic bullets (withUncollapsed 0 (margin squeeze off S))))
+    put-text-able r = out-able-by r behind-is
+
+    pub put-text-works : {s′ : Serializer} {buf′ : Bytes} → WorksOut write s buf s′ buf′ (λ S. showText squeeze trim (n .escape) text (lead basic bullets (withUncollapsed 0 (margin squeeze off S))))
+        → WorksOut write s buf s′ buf′ (putText off basic bullets n block text)
+    put-text-works d = out-by d (λ numbering cells under S h. sym (behind-is numbering cells under S h))
+
+  pub put-text-none : {buf : Bytes} → shows ≡ false → WorksOut write s buf s buf (putText off basic bullets n block text)
+  put-text-none e = out-by out-none (λ numbering cells under S h. sym (put-text-empty off basic bullets n block text S (left-is e h)))

@@ -1,0 +1,13 @@
+-- `collapses` meets its contract.
+use borrow.Author.Tests.{eq-eqb, ne-eqb}
+use Rattle.serializer.proofs.margins.collapses.Statement.{statement}
+use Rattle.serializer.proofs.margins.collapses.Tie as tie
+
+returns : tie.Need-returns
+returns c = rw (eq-eqb _ _ (c .if1 .taken))
+
+returns-2 : tie.Need-returns-2
+returns-2 c = rw (ne-eqb _ _ (c .if1 .left))
+
+pub collapses-spec : {M : Type 1} → statement M
+collapses-spec = tie.close (tie.spec returns returns-2)
