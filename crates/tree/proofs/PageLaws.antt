@@ -27,11 +27,11 @@ comment-not-text : comment ≡ text → ⊥
 comment-not-text e = let z : _≡_ {A = ℕ} 0 1 = cc in omega arith
 
 module _ (k : ℕ) where
-  kind-element : k ≡ 1 → kindOf k ≡ element
+  pub kind-element : k ≡ 1 → kindOf k ≡ element
   unfolding kindOf
   kind-element e = rw (eq-eqb k 1 e)
 
-  kind-text : k ≡ 3 → kindOf k ≡ text
+  pub kind-text : k ≡ 3 → kindOf k ≡ text
   unfolding kindOf
   kind-text e = rw (ne-eqb k 1 (omega arith), eq-eqb k 3 e)
 
@@ -50,7 +50,7 @@ module _ (k : ℕ) where
       (λ t. rw (t, ne-eqb k 3 n) comment-not-text)
 
 module _ (s : Bytes) (l : Layout) {r : Row} (i : ℕ) (r-is : r ≡ rowAt s l i) where
-  row-kind : nodeAt s l i .kind ≡ kindOf (r .kind)
+  pub row-kind : nodeAt s l i .kind ≡ kindOf (r .kind)
   unfolding nodeAt
   row-kind = rw r-is
 
