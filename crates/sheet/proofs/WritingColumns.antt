@@ -1,7 +1,7 @@
 -- Numbers are written in columns from the right, and a line of them from the left.
 use mathlib.Core.Path.{_≡_, refl, sym, ap, subst, _∙_}
-use mathlib.Core.List.{[], _∷_, _++_}
-use Prim.Native.Nat.{ℕ, zero, suc, _+_, _-_, _/_, _%_, _≤_, _<_}
+use mathlib.Core.List.{List, [], _∷_, _++_}
+use Prim.Native.Nat.{ℕ, zero, suc, _+_, _-_, _*_, _/_, _%_, _≤_, _<_}
 use native.Mathlib.Numerals.{add-one}
 use native.Mathlib.Omega.{arith}
 use lib.ListN.{length, set, length-set, replicate, replicate-append-replicate, length-append, length-replicate}
@@ -109,3 +109,8 @@ pub line-put : (w : ℕ) (q : Quad) {s0 s1 s2 s3 s4 s5 : Bytes} {at a1 a2 a3 a4 
     → Puts s0 at (quadLine w q) s5 past
 unfolding line
 line-put w q p1 p2 p3 p4 p5 = puts-then p1 (puts-then p2 (puts-then p3 (puts-then p4 p5)))
+
+pub line-length : (w : ℕ) (ns : List ℕ) → length (line w ns) ≡ length ns * w + 1
+unfolding line
+line-length w [] = omega arith
+line-length w (n ∷ ns) = length-append (columns w n) (line w ns) ∙ omega (arith, columns-length w n, line-length w ns)
