@@ -4,15 +4,13 @@ use Prim.Native.Nat.{ℕ, _-_, _^_, min}
 use lib.Dec.{ltb}
 use lib.ListN.{length}
 use Rattle.common.specs.Bytes.{Bytes, padded}
+use Rattle.common.specs.declared.Answer as declared
 use Rattle.common.specs.declared.Written.{Written}
 use Rattle.common.specs.declared.Written.the-variants.{Text, TooShort}
 
 -- a number, its second number, visits and length; the number of an accepted call is 0
-pub record Answer : Type 0 where
-  pub number : ℕ
-  pub second : ℕ
-  pub visits : ℕ
-  pub length : ℕ
+abbrev pub Answer : Type 0
+Answer = declared.Answer
 
 -- "A refusal has visits 0 and length 0."
 abbrev pub refused : ℕ → ℕ → Answer

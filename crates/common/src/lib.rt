@@ -1,10 +1,19 @@
-// Byte strings: stored into a lent buffer, and compared.
+// Byte strings: stored into a lent buffer, and compared; an answer in numbers.
 ghost use mathlib.Core.List.{_++_};
 ghost use mathlib.Core.Path.{_≡_};
 ghost use Prim.Native.Nat.{_+_, _-_, _≤_};
 ghost use lib.ListN.{drop, length, replicate, take};
 ghost use Rattle.common.specs.Bytes.{same};
 ghost use Rattle.common.specs.Puts.{Puts};
+
+// What a call says in document 01's numbers; C reads it as it stands.
+#[repr(C)]
+pub struct Answer {
+    pub number: usize,
+    pub second: usize,
+    pub visits: usize,
+    pub length: usize,
+}
 
 // A text of so many bytes is written, or the lent buffer is shorter than the need.
 pub enum Written {

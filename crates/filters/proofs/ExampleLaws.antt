@@ -1,7 +1,7 @@
 -- The worked examples hold: one test, which is computed.
 use lib.Ieee.{lt, ofBits, div, ofInt}
 use Rattle.common.specs.Bytes.{codes, same}
-use Rattle.links.specs.Links.{isLink, textBytes, linksAmong, linkBytes, measureOf, linkCluster}
+use Rattle.links.specs.Links.{isLink, linksAmong, linkBytes, measureOf, linkCluster}
 use Rattle.regex.specs.Regex.{lower, isDash, isHexDigit, inClass, word, exact}
 use Rattle.regex.specs.Match.{fit, finds}
 use Rattle.tags.specs.Tags.{isBlock}
@@ -10,6 +10,7 @@ use Rattle.text.specs.Text.{isSpace, isAsciiWhitespace, trimStartBy, rstripBy, 
 use Rattle.tree.specs.Forest.{preorder}
 use Rattle.tree.specs.Node.{tag, attribute}
 use Rattle.tree.specs.Rows.{build, numbered, scanOf}
+use Rattle.tree.specs.TextLength.{textLength}
 use Rattle.tree.specs.TextContent.{textData, concatenated, textContent}
 use Rattle.filters.specs.Examples.{filteredFrom, isRight, areRight, icons, pages, ExamplesAreRight}
 use Rattle.filters.specs.Filters.{hiddenByAttribute, notDisplayed, skipLink, signinMetaOrSocial, adAttribute, logoOrAd, notBlock, relMain, roleOutside, commentSection, article, landmark, byBlock, byClassAndId, byAttributes, byName, isMainContent, filterDepth, filtered}
@@ -21,7 +22,7 @@ unfolding
     icons pages areRight isRight filteredFrom filtered filterDepth isMainContent byName byAttributes byClassAndId byBlock
     landmark article commentSection roleOutside relMain notBlock logoOrAd adAttribute signinMetaOrSocial skipLink notDisplayed hiddenByAttribute
     isBody isNotText bodyFrom followedFrom inLegacyRange inPrivateUse isIcon
-    linkCluster measureOf linkBytes linksAmong textBytes isLink textContent concatenated textData preorder build numbered scanOf tag attribute
+    linkCluster measureOf linkBytes linksAmong textLength isLink textContent concatenated textData preorder build numbered scanOf tag attribute
     codes same words firstWord otherWords oneOf isBlock finds fit word exact inClass lower isDash isHexDigit
     isSpace isAsciiWhitespace trimStartBy rstripBy trimBy collapseFrom collapseBy lt ofBits div ofInt
 examples-are-right = tt

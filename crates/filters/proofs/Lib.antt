@@ -1,1 +1,9 @@
+pub mod AttributeLaws
+pub mod ClassLaws
 pub mod ExampleLaws
+pub mod FooterLaws
+pub mod IconLaws
+pub mod NameLaws
+pub mod RowLaws
+pub mod TestLaws
+pub mod ValueLaws

@@ -1,4 +1,6 @@
+pub mod Classes
 pub mod Examples
 pub mod Filters
 pub mod Footer
+pub mod Gathered
 pub mod Icon

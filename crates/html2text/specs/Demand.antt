@@ -2,7 +2,6 @@
 use mathlib.Core.Path.{_≡_}
 use mathlib.Core.Bool.{Bool, true, false, _&&_, _||_, not}
 use mathlib.Core.List.{List, []}
-use mathlib.Core.Logic.{_⊎_}
 use mathlib.Core.Option.{some}
 use Prim.Native.Nat.{ℕ, suc, _+_, _<_}
 use lib.ListN.{length, getD}
@@ -50,9 +49,9 @@ pub record CellsRight (p : Page) : Type 0 where
   pub later : (i j : ℕ) → i < length (p .depths) → isCellNode (p .node i) ≡ true → LaterSibling (p .depths) i j
       → (isCellNode (p .node j) || (isComment (p .node j .kind) || (isBlankText (p .node j) || p .marked j))) ≡ true
 
--- the pieces of a page's visible rows, in document order
-abbrev pub visiblePieces : (ℕ → Bool) → Page → ExtractOptions → List Piece
-visiblePieces filtered p o = pieces (p .node) (hidden filtered p o) o [] (treeOf p)
+-- the pieces of a page's visible rows, in document order; `filtered` says which rows are filtered out
+abbrev pub visiblePieces : (Page → ExtractOptions → ℕ → Bool) → Page → ExtractOptions → List Piece
+visiblePieces filtered p o = pieces (p .node) (hidden (filtered p o) p o) o [] (treeOf p)
 
 -- marked in the second page, and not in the first
 abbrev pub furtherMarked : Page → Page → ℕ → Bool
@@ -60,7 +59,7 @@ furtherMarked p₁ p₂ i = p₂ .marked i && not (p₁ .marked i)
 
 -- "each text, with blanks struck out, equals the pieces of its sheet's visible rows, in document order and nothing else; and the second's
 -- equals the first's pieces less exactly those at and under the further marked rows, the others in their old order"
-pub record TextsArePieces (filtered : ℕ → Bool) (o : ExtractOptions) (p₁ p₂ : Page) (t₁ t₂ : Bytes) : Type 0 where
+pub record TextsArePieces (filtered : Page → ExtractOptions → ℕ → Bool) (o : ExtractOptions) (p₁ p₂ : Page) (t₁ t₂ : Bytes) : Type 0 where
   pub first : struck t₁ ≡ struckPieces (visiblePieces filtered p₁ o)
   pub second : struck t₂ ≡ struckPieces (visiblePieces filtered p₂ o)
   pub second-less : struck t₂ ≡ struckPieces (without (furtherMarked p₁ p₂) (visiblePieces filtered p₁ o))

@@ -1,6 +1,6 @@
 -- An extraction: `serialize` over all entries with 21 and 22, the needs of 31 and 32, the answer, and what the lent buffers hold after it
 -- (document 01, "Who can cause which number").
-use mathlib.Core.Bool.{Bool, true, false, _&&_, _||_, not, cond}
+use mathlib.Core.Bool.{Bool, _&&_, _||_, not, cond}
 use mathlib.Core.List.{List, [], _∷_}
 use Prim.Native.Nat.{ℕ, zero, suc, _+_}
 use lib.Dec.{leb, ltb}
@@ -10,11 +10,13 @@ use Rattle.common.specs.Bytes.{Bytes, codes, padded}
 use Rattle.options.specs.Options.{isOff}
 use Rattle.options.specs.declared.ExtractOptions.{ExtractOptions}
 use Rattle.options.specs.declared.Formatting.{Formatting}
+use Rattle.sheet.specs.Verdict.{verdictOf}
 use Rattle.sheet.specs.Verdict as verdict
 use Rattle.tags.specs.Tags.{isTr}
 use Rattle.text.specs.Text.{rstrip}
 use Rattle.tree.specs.Node.{element, text, comment, Node}
-use Rattle.tree.specs.Page.{Page}
+use Rattle.tree.specs.Page.{Page, pageOf}
+use Rattle.tree.specs.Questions.{onSheet}
 use Rattle.writer.specs.Out.{greater}
 use Rattle.html2text.specs.Collect.{Entry, attr, collectAll}
 use Rattle.html2text.specs.Serialize.{State, start, step, changesLevel}
@@ -32,12 +34,18 @@ pub data Run : Type 0 where
   tooManyRows : ℕ → Run
 
 -- "21: list depth would pass 1,024. Formatting Off never counts it."
+abbrev pub depthPasses : Formatting → ExtractNode → ℕ → Bool
+depthPasses f n depth = not (isOff f) && (not (n .end) && (changesLevel (n .tag) depth && leb 1024 depth))
+
 abbrev pub passesLevels : Formatting → ExtractNode → State → Bool
-passesLevels f n S = not (isOff f) && (not (n .end) && (changesLevel (n .tag) (S .depth) && leb 1024 (S .depth)))
+passesLevels f n S = depthPasses f n (S .depth)
 
 -- "22: open table rows would pass 1,024."
+abbrev pub rowsPass : ExtractNode → ℕ → Bool
+rowsPass n rows = isTr (n .tag) && (not (n .end) && leb 1024 rows)
+
 abbrev pub passesRows : ExtractNode → State → Bool
-passesRows n S = isTr (n .tag) && (not (n .end) && leb 1024 (length (S .rowHasCell)))
+passesRows n S = rowsPass n (length (S .rowHasCell))
 
 -- "second number: the node's line"; the header is line 0
 abbrev pub lineOf : Entry → ℕ
@@ -75,6 +83,9 @@ unfoldable pub longestNames : (ℕ → Node) → ℕ → ℕ
 longestNames nodeOf zero = 0
 longestNames nodeOf (suc k) = greater (longestNames nodeOf k) (namesLength (nodeOf k))
 
+abbrev pub workNeedOf : Page → ExtractOptions → List Entry → ℕ
+workNeedOf p o nodes = greater (longestText nodes) (cond (o .«main_content») (longestNames (p .node) (length (p .depths))) 0)
+
 -- ---- "The caller's 31 is tested after 21 and 22, 32 after 31."
 
 module _ (need passes : ℕ) where
@@ -111,7 +122,7 @@ module _ (filtered : ℕ → Bool) (p : Page) (o : ExtractOptions) where
   passes = visits (p .node) hidden (treeOf p)
 
   abbrev pub workNeed : ℕ
-  workNeed = greater (longestText entries) (cond (o .«main_content») (longestNames (p .node) (length (p .depths))) 0)
+  workNeed = workNeedOf p o entries
 
   unfoldable pub extraction : ℕ → ℕ → Extraction
   extraction out work = concluded workNeed passes (serialized o entries) out work
@@ -130,3 +141,19 @@ numbers (ListLevels line) = refused 21 line
 numbers (OpenRows line) = refused 22 line
 numbers (WorkTooShort need) = refused 31 need
 numbers (OutTooShort need) = refused 32 need
+
+-- ---- of a byte string: the sheet's refusals come first, and change neither buffer
+-- `filters` says which rows `is_main_content` leaves out, by the rows, their depths, the root and the options: it is given no marks
+
+module _ (filters : (ℕ → Node) → List ℕ → ℕ → ExtractOptions → ℕ → Bool) where
+  abbrev pub filteredBy : Page → ExtractOptions → ℕ → Bool
+  filteredBy p o = filters (p .node) (p .depths) (p .root) o
+
+  unfoldable pub extractionOf : Bytes → ExtractOptions → ℕ → ℕ → Extraction
+  extractionOf s o out work = onSheet (λ l. extraction (filteredBy (pageOf s l) o) (pageOf s l) o out work) Refused (verdictOf 8 s)
+
+  unfoldable pub outAfterOf : Bytes → ExtractOptions → Bytes → Bytes → Bytes
+  outAfterOf s o out work = onSheet (λ l. outAfter (filteredBy (pageOf s l) o) (pageOf s l) o out work) (λ v. out) (verdictOf 8 s)
+
+  unfoldable pub workAfterOf : Bytes → ExtractOptions → Bytes → Bytes
+  workAfterOf s o work = onSheet (λ l. workAfter (filteredBy (pageOf s l) o) (pageOf s l) o work) (λ v. work) (verdictOf 8 s)

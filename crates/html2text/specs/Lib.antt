@@ -1,7 +1,11 @@
+pub mod Bounds
 pub mod Collect
 pub mod Demand
+pub mod Demand3
+pub mod Examples
 pub mod Extract
 pub mod Fused
+pub mod Levels
 pub mod Pieces
 pub mod Serialize
 pub mod Theorems

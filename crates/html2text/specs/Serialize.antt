@@ -135,7 +135,7 @@ level n S =
     (withLevels (S .depth + 1) (S .numbering ++ (one (isOl (n .tag)) ∷ [])) S))
     S
 
--- `numbering.last_mut().expect(..)`: a missing level reads as 0, and is never met (specs/Levels.antt)
+-- `numbering.last_mut().expect(..)`: a missing level reads as 0, and is never met (`LevelMet` of specs/Theorems.antt)
 unfoldable pub numberOf : State → ℕ
 numberOf S = getD (S .numbering) (length (S .numbering) - 1) 0
 

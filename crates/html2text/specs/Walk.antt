@@ -11,7 +11,7 @@ use Rattle.tree.specs.Forest.{Forest, empty, node}
 use Rattle.tree.specs.Node.{Kind, element, text, comment, Node}
 use Rattle.tree.specs.Page.{Page}
 use Rattle.tree.specs.Rows.{childrenOf, firstChildOf, nextSiblingOf}
-use Rattle.html2text.specs.Collect.{Event, Entry, collect, collectAll}
+use Rattle.html2text.specs.Collect.{Event, Entry, collect}
 use Rattle.html2text.specs.Serialize.{one}
 
 abbrev pub isComment : Kind → Bool

@@ -1,3 +1,5 @@
+pub mod Counting
 pub mod Exact
 pub mod Examples
 pub mod Links
+pub mod Questions

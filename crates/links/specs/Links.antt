@@ -4,14 +4,12 @@ use mathlib.Core.List.{List, [], _∷_}
 use Prim.Native.Nat.{ℕ, _+_}
 use lib.Dec.{ltb, eqb}
 use lib.Ieee.{lt}
-use lib.ListN.{length}
 use Rattle.common.specs.Bytes.{codes, same}
 use Rattle.quotient.specs.Quotient.{quotient, fifth, threeFifths}
-use Rattle.text.specs.Text.{collapse}
 use Rattle.tree.specs.Forest.{preorder}
 use Rattle.tree.specs.Node.{element, text, comment, Node, tag}
 use Rattle.tree.specs.Rows.{childrenOf}
-use Rattle.tree.specs.TextContent.{textContent}
+use Rattle.tree.specs.TextLength.{textLength}
 use Rattle.links.specs.declared.Measure.{Measure}
 use Rattle.links.specs.declared.Measure.the-variants.{NoText, TooLong, NoLinks, Share}
 use Rattle.links.specs.declared.Rule.{Rule}
@@ -23,12 +21,12 @@ isLink n = same (tag n) (codes "a")
 
 module _ (nodeOf : ℕ → Node) (depths : List ℕ) where
   -- `collapse(&node.text_content().unwrap_or_default()).len()`
-  unfoldable pub textBytes : ℕ → ℕ
-  textBytes i = length (collapse (textContent nodeOf i (childrenOf depths i)))
+  abbrev pub textBytes : ℕ → ℕ
+  textBytes i = textLength nodeOf depths i
 
   -- "summed per `a`": one that stands in another adds its bytes again
   unfoldable pub linksAmong : List ℕ → ℕ
-  unfolding isLink textBytes
+  unfolding isLink
   linksAmong [] = 0
   linksAmong (j ∷ rows) = elim (isLink (nodeOf j)) [ true ↦ textBytes j + linksAmong rows | false ↦ linksAmong rows ]
 
@@ -59,7 +57,7 @@ exceeds rule (Share share) = lt (rule .ratio) share
 
 -- `link_cluster`
 unfoldable pub linkCluster : (ℕ → Node) → List ℕ → Rule → ℕ → Bool
-unfolding measureOf textBytes linkBytes
+unfolding measureOf linkBytes
 linkCluster nodeOf depths rule i =
     elim (nodeOf i .kind) [ element ↦ exceeds rule (measureOf rule (textBytes nodeOf depths i) (linkBytes nodeOf depths i)) | text ↦ false | comment ↦ false ]
 

@@ -1,4 +1,8 @@
 // The link measure of a row, and the rules on it.
+pub mod cluster;
+pub mod counts;
+pub mod questions;
+
 ghost use mathlib.Core.Path.{_≡_};
 ghost use Rattle.links.specs.Links.{exceeds, fifthOf500, fifthOfAny, isTooLong, measureOf, threeFifthsOf1500, threeFifthsOf800};
 ghost use Rattle.quotient.specs.Quotient.{quotient};

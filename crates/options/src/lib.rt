@@ -1,4 +1,7 @@
-// The options of an extraction (`ExtractOptions` of html2text.rs), without those that only shape selectors, and icons.
+// The options of an extraction (`ExtractOptions` of html2text.rs), without those that only shape selectors, and icons; and the line
+// that names them.
+pub mod line;
+
 ghost use mathlib.Core.Path.{_≡_};
 ghost use Rattle.options.specs.Options.{standing};
 

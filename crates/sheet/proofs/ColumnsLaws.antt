@@ -14,13 +14,10 @@ use borrow.Author.Tests.{le-ltb, ne-eqb, ltb-false, eqb-true}
 use Rattle.common.specs.Bytes.{Bytes}
 use Rattle.common.proofs.Choice.{by-cond}
 use Rattle.sheet.specs.Columns.{Columns, Blank, Value, Broken, columns, ifDigit, nextColumn, columnsFrom, finish, fieldOf, ReadsBack}
+use Rattle.sheet.specs.Writing.{front}
 use Rattle.sheet.specs.declared.field.Field.{Field}
 use Rattle.sheet.specs.declared.field.Field.the-variants.{Number, Bad}
 use Rattle.sheet.proofs.ReadingColumns.{ten-positive}
-
--- the columns in front of the last digit, q being the number without it
-abbrev front : ℕ → ℕ → Bytes
-front w q = elim q [ zero ↦ replicate w 32 | suc m ↦ columns w (suc m) ]
 
 columns-append : (c : Columns) (s t : Bytes) → columnsFrom c (s ++ t) ≡ columnsFrom (columnsFrom c s) t
 columns-append c [] t = refl
@@ -44,11 +41,12 @@ later-digit m d h =
 
 last-digit : (w n q : ℕ) → n / 10 ≡ q → ((m : ℕ) → q ≡ suc m → columnsFrom Blank (columns w (suc m)) ≡ Value (suc m))
     → nextColumn (columnsFrom Blank (front w q)) (48 + n % 10) ≡ Value n
+unfolding front
 last-digit w n zero e f = rw spaces (first-digit (n % 10) (omega arith) ∙ ap Value (omega arith))
 last-digit w n (suc m) e f = rw (f m refl) (later-digit m (n % 10) (omega arith) ∙ ap Value (omega arith))
 
 read-columns : (w n : ℕ) → n < 10 ^ suc w → columnsFrom Blank (columns (suc w) n) ≡ Value n
-unfolding columns
+unfolding columns front
 read-columns zero n h = columns-append Blank (front zero (n / 10)) _ ∙ last-digit zero n (n / 10) refl (λ m e. absurd (omega arith))
 read-columns (suc w) n h =
     columns-append Blank (front (suc w) (n / 10)) _
@@ -124,12 +122,13 @@ blank-form (suc w) s l h =
     ∙ ap (λ (k : ℕ). replicate k 32) (add-one w)
 
 join : (w n : ℕ) (p : Bytes) (b q : ℕ) → n / 10 ≡ q → p ≡ front w q → b ≡ 48 + n % 10 → p ++ b ∷ [] ≡ columns (suc w) n
-unfolding columns
+unfolding columns front
 join w n p b q e h d = ap₂ (λ (a : Bytes) (x : ℕ). a ++ x ∷ []) (h ∙ ap (front w) (sym e)) d
 
 longer : (w n : ℕ) (p : Bytes) (b : ℕ) → length p ≡ w → From (columnsFrom Blank p) b n
     → ((m : ℕ) → columnsFrom Blank p ≡ Value (suc m) → (p ≡ columns w (suc m)) × (suc m < 10 ^ w))
     → (p ++ b ∷ [] ≡ columns (suc w) n) × (n < 10 ^ suc w)
+unfolding front
 longer w n p b l (first e lo hi en) ih =
     (join w n p b 0 (omega arith) (blank-form w p l e) (omega arith), omega (arith, pow-succ' 10 w, ten-positive w))
 longer w n p b l (next m e lo hi en) ih =

@@ -10,3 +10,4 @@ pub mod NodePass
 pub mod Parents
 pub mod ReadingColumns
 pub mod RowTests
+pub mod WritingColumns

@@ -6,3 +6,4 @@ pub mod Lines
 pub mod Notes
 pub mod Reading
 pub mod Verdict
+pub mod Writing

@@ -5,3 +5,4 @@ pub mod notes;
 pub mod read;
 pub mod tests;
 pub mod verdict;
+pub mod write;

@@ -1,2 +1,4 @@
+pub mod LineLaws
+pub mod PackLaws
 pub mod TagLaws
 pub mod WordLaws

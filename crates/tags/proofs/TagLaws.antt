@@ -13,10 +13,10 @@ use Rattle.tags.specs.Words.{words, firstWord, otherWords, is, oneOf, nu
 use Rattle.tags.proofs.WordLaws.{each, each-at, no-number, one-word, by-words}
 
 -- all names that have a number
-abbrev known : List Bytes
+abbrev pub known : List Bytes
 known = codes "th" ∷ tagNames
 
-unknown : (name : Bytes) → oneOf name known ≡ false → tagOf name ≡ 0
+pub unknown : (name : Bytes) → oneOf name known ≡ false → tagOf name ≡ 0
 unfolding tagOf oneOf
 unknown name h =
     by-test (is name "th")
@@ -24,17 +24,17 @@ unknown name h =
     (λ e. rw e (no-number 1 name tagNames (rw (e, oneOf) at h)))
 
 -- the test on numbers says which names are among the words: one test that is computed
-abbrev tells : (ℕ → Bool) → List Bytes → Bool
+abbrev pub tells : (ℕ → Bool) → List Bytes → Bool
 tells test ws = not (test 0) && (each (λ w. Bool·beq (test (tagOf w)) (oneOf w ws)) known && each (λ w. oneOf w known) ws)
 
-told : (test : ℕ → Bool) (ws : List Bytes) → tells test ws ≡ true → (name : Bytes) → test (tagOf name) ≡ oneOf name ws
+pub told : (test : ℕ → Bool) (ws : List Bytes) → tells test ws ≡ true → (name : Bytes) → test (tagOf name) ≡ oneOf name ws
 told test ws t =
     let p = and-parts (not (test 0)) (each (λ w. Bool·beq (test (tagOf w)) (oneOf w ws)) known && each (λ w. oneOf w known) ws) t in
     let q = and-parts (each (λ w. Bool·beq (test (tagOf w)) (oneOf w ws)) known) (each (λ w. oneOf w known) ws) (p .1) in
     by-words ws known (λ w. test (tagOf w)) (q .0) (q .1) (λ s h. ap test (unknown s h) ∙ not-true (test 0) (p .0))
 
 -- of one name
-told-one : (test : ℕ → Bool) (w : Bytes) → tells test (w ∷ []) ≡ true → (name : Bytes) → test (tagOf name) ≡ same name w
+pub told-one : (test : ℕ → Bool) (w : Bytes) → tells test (w ∷ []) ≡ true → (name : Bytes) → test (tagOf name) ≡ same name w
 told-one test w t name = told test (w ∷ []) t name ∙ one-word name w
 
 isWritten : ℕ → Bool

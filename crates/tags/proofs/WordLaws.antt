@@ -1,8 +1,10 @@
 -- A test that is computed at each word of a list holds of every byte string that is one of them.
 use mathlib.Core.Path.{_≡_, refl, sym, _∙_}
-use mathlib.Core.Bool.{Bool, true, false, _&&_, Bool·beq}
+use mathlib.Core.Bool.{Bool, true, false, _&&_, _||_, Bool·beq}
 use mathlib.Core.List.{List, [], _∷_}
-use Prim.Native.Nat.{ℕ, _+_}
+use Prim.Native.Nat.{ℕ, zero, suc, _+_, _≤_, _<_}
+use native.Mathlib.Omega.{arith}
+use lib.ListN.{getD, length}
 use Rattle.common.specs.Bytes.{Bytes, same}
 use Rattle.common.proofs.Choice.{by-test, absurd-test, and-parts}
 use Rattle.common.proofs.Equality.{same-true}
@@ -31,12 +33,53 @@ no-number n s (w ∷ ws) h =
     (λ e. absurd-test (rw (e, oneOf)) h)
     (λ e. rw (e, numberFrom) (no-number (n + 1) s ws (rw (e, oneOf) at h)))
 
+-- a number lies between the first and the last, and says the word
+pub number-below : (n : ℕ) (s : Bytes) (ws : List Bytes) → 0 < n → numberFrom n s ws < n + length ws
+unfolding numberFrom
+number-below n s [] h = omega arith
+number-below n s (w ∷ ws) h =
+    by-test (same s w)
+    (λ e. rw (e, numberFrom) (omega arith))
+    (λ e. rw (e, numberFrom) (omega (arith, number-below (n + 1) s ws (omega arith))))
+
+number-above : (n : ℕ) (s : Bytes) (ws : List Bytes) → 0 < numberFrom n s ws → n ≤ numberFrom n s ws
+unfolding numberFrom
+number-above n s [] h = absurd (omega arith)
+number-above n s (w ∷ ws) h =
+    by-test (same s w)
+    (λ e. rw (e, numberFrom) (omega arith))
+    (λ e. rw (e, numberFrom) (omega (arith, number-above (n + 1) s ws (rw (e, numberFrom) at h))))
+
+pub number-word : (n : ℕ) (s : Bytes) (ws : List Bytes) (k : ℕ) → 0 < n → numberFrom n s ws ≡ n + k → s ≡ getD ws k []
+unfolding numberFrom
+number-word n s [] k h e = absurd (omega arith)
+number-word n s (w ∷ ws) zero h e =
+    by-test (same s w)
+    (λ t. same-true s w t)
+    (λ t. let q : numberFrom (n + 1) s ws ≡ n + 0 = rw (t, numberFrom) at e in absurd (omega (arith, number-above (n + 1) s ws (omega arith))))
+number-word n s (w ∷ ws) (suc k) h e =
+    by-test (same s w)
+    (λ t. let q : n ≡ n + suc k = rw (t, numberFrom) at e in absurd (omega arith))
+    (λ t. let q : numberFrom (n + 1) s ws ≡ n + suc k = rw (t, numberFrom) at e in number-word (n + 1) s ws k (omega arith) (omega arith))
+
+pub none-of : (s w : Bytes) (ws : List Bytes) → same s w ≡ false → oneOf s ws ≡ false → oneOf s (w ∷ ws) ≡ false
+unfolding oneOf
+none-of s w ws e h = rw (e, oneOf) h
+
+pub none-of-none : (s : Bytes) → oneOf s [] ≡ false
+unfolding oneOf
+none-of-none s = refl
+
+pub one-of-cons : (s w : Bytes) (ws : List Bytes) → oneOf s (w ∷ ws) ≡ (same s w || oneOf s ws)
+unfolding oneOf
+one-of-cons s w ws = by-test (same s w) (λ e. rw (e, oneOf)) (λ e. rw (e, oneOf))
+
 -- one word is a list of one word
 pub one-word : (s w : Bytes) → oneOf s (w ∷ []) ≡ same s w
 unfolding oneOf
 one-word s w = by-test (same s w) (λ e. rw (e, oneOf)) (λ e. rw (e, oneOf))
 
-beq-true : (a b : Bool) → Bool·beq a b ≡ true → a ≡ b
+pub beq-true : (a b : Bool) → Bool·beq a b ≡ true → a ≡ b
 beq-true true true e = refl
 beq-true false false e = refl
 beq-true true false e = absurd-test e refl

@@ -1,2 +1,4 @@
+pub mod Line
+pub mod Packed
 pub mod Tags
 pub mod Words

@@ -10,7 +10,7 @@ use lib.Seq.{drop-cons}
 use Rattle.common.specs.Bytes.{Bytes}
 use Rattle.common.proofs.Choice.{by-test, absurd-test}
 use Rattle.text.specs.Collapsed.{Collapsed}
-use Rattle.text.specs.Text.{squeezed, trimStartBy, collapseFrom, collapseBy}
+use Rattle.text.specs.Text.{squeezed, trimStartBy, collapseFrom, spaceAfter, collapseBy}
 
 pub squeezed-length : (b space : Bool) (c d : ℕ) → length (squeezed b space c) ≡ length (squeezed b space d)
 squeezed-length true true c d = refl
@@ -23,12 +23,7 @@ squeezed-short true false c = omega arith
 squeezed-short false space c = omega arith
 
 module _ (blank : ℕ → Bool) where
-  -- `collapse`'s variable `space` behind a text
-  abbrev pub spaceAfter : Bool → Bytes → Bool
-  spaceAfter space [] = space
-  spaceAfter space (c ∷ s) = spaceAfter (blank c) s
-
-  pub collapse-append : (space : Bool) (s t : Bytes) → collapseFrom blank space (s ++ t) ≡ collapseFrom blank space s ++ collapseFrom blank (spaceAfter space s) t
+  pub collapse-append : (space : Bool) (s t : Bytes) → collapseFrom blank space (s ++ t) ≡ collapseFrom blank space s ++ collapseFrom blank (spaceAfter blank space s) t
   unfolding collapseFrom
   collapse-append space [] t = refl
   collapse-append space (c ∷ s) t =
@@ -49,6 +44,16 @@ module _ (blank : ℕ → Bool) where
   pub collapse-done : (space : Bool) (s : Bytes) (i : ℕ) → length s ≤ i → collapseFrom blank space (drop i s) ≡ []
   unfolding collapseFrom
   collapse-done space s i h = rw (drop-of-length-le s {i = i} h)
+
+  pub space-then : {b : Bool} (space : Bool) (s : Bytes) (i : ℕ) → i < length s → b ≡ blank (getD s i 0) → spaceAfter blank b (drop (i + 1) s) ≡ spaceAfter blank space (drop i s)
+  space-then space s i h e = rw (add-one, drop-cons s i 0 h, e)
+
+  pub space-done : (space : Bool) (s : Bytes) (i : ℕ) → length s ≤ i → spaceAfter blank space (drop i s) ≡ space
+  space-done space s i h = rw (drop-of-length-le s {i = i} h)
+
+  pub space-append : (space : Bool) (s t : Bytes) → spaceAfter blank space (s ++ t) ≡ spaceAfter blank (spaceAfter blank space s) t
+  space-append space [] t = refl
+  space-append space (c ∷ s) t = space-append (blank c) s t
 
   pub collapse-from-length : (space : Bool) (s : Bytes) → length (collapseFrom blank space s) ≤ length s
   unfolding collapseFrom

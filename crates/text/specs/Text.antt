@@ -48,6 +48,11 @@ module _ (blank : ℕ → Bool) where
   collapseFrom space [] = []
   collapseFrom space (c ∷ s) = squeezed (blank c) space c ++ collapseFrom (blank c) s
 
+  -- its variable `space` behind a text
+  abbrev pub spaceAfter : Bool → Bytes → Bool
+  spaceAfter space [] = space
+  spaceAfter space (c ∷ s) = spaceAfter (blank c) s
+
   -- `collapse`
   unfoldable pub collapseBy : Bytes → Bytes
   unfolding collapseFrom

@@ -5,7 +5,13 @@ ghost use Prim.Native.Nat.{_+_, _≤_};
 ghost use lib.ListN.{drop, length};
 ghost use Rattle.common.specs.Answer.{capped, numbers, outAfter, writtenIn};
 ghost use Rattle.common.specs.Puts.{Puts};
-ghost use Rattle.text.specs.Text.{collapse, escape, escaped, isSpace, rstrip, squeezed, trim, trimStartBy};
+ghost use Rattle.text.specs.Text.{collapse, collapseFrom, escape, escaped, isSpace, rstrip, spaceAfter, squeezed, trim, trimStartBy};
+
+// How many bytes a collapsed text has, and whether a blank is the last of them.
+pub struct Squeezed {
+    pub len: usize,
+    pub space: bool,
+}
 
 // ASCII whitespace and U+000B.
 pub fn is_space(b: u8) -> bool
@@ -71,19 +77,30 @@ fn squeezed_len(blank: bool, space: bool) -> usize
     1
 }
 
-fn collapsed_len(s: &[u8]) -> usize
-    ensures { λ r. ⌜ r ≡ length (collapse (now (s .entry))) ⌝ }
+// The bytes that a text adds to a collapsed text, by whether a blank stands before it; and whether one stands before what follows.
+pub fn collapsed_from(s: &[u8], space: bool) -> Squeezed
+    ensures { λ r. ⌜ (r .len ≡ length (collapseFrom isSpace space (now (s .entry)))) × (r .space ≡ spaceAfter isSpace space (now (s .entry))) ⌝ }
 {
     let mut n = 0;
-    let mut space = false;
+    let mut before = space;
     let mut i = 0;
     while i < s.len() {
         let blank = is_space(s[i]);
-        n += squeezed_len(blank, space);
-        space = blank;
+        n += squeezed_len(blank, before);
+        before = blank;
         i += 1;
     }
-    n
+    Squeezed {
+        len: n,
+        space: before,
+    }
+}
+
+pub fn collapsed_len(s: &[u8]) -> usize
+    ensures { λ r. ⌜ r ≡ length (collapse (now (s .entry))) ⌝ }
+{
+    let r = collapsed_from(s, false);
+    r.len
 }
 
 // What a character adds to the collapsed text, stored at at; the place past it.

@@ -12,9 +12,10 @@ use Rattle.sheet.specs.Verdict.{countsFrom}
 use Rattle.sheet.specs.declared.line.Attribute.{Attribute}
 use Rattle.sheet.specs.declared.line.Layout.{Layout}
 use Rattle.sheet.specs.declared.line.Row.{Row}
-use Rattle.tree.specs.Attributes.{nameAt, attributesFrom, findOf, valueIn, fromRange, attributeTo, attributeOf}
+use Rattle.tree.specs.Attributes.{nameAt, attributesFrom, findOf, valueIn, fromRange, attributeTo, attributeOf, numbers, values, rangeNumbers, rangeValues, rangeOf, attributeNumbers, attributeValues}
 use Rattle.tree.specs.Node.{attribute}
 use Rattle.tree.proofs.NodeLaws.{attribute-cons-here, attribute-cons-next}
+use Rattle.tree.proofs.QuestionsLaws.{asked-by-sheet}
 use Rattle.tree.specs.Questions.{askedOf}
 use Rattle.tree.specs.declared.attributes.AttributeAnswer.{AttributeAnswer}
 use Rattle.tree.specs.declared.attributes.AttributeAt.{AttributeAt}
@@ -100,10 +101,29 @@ module _ (s : Bytes) (l : Layout) where
 
 -- the answer to a byte string, by what is asked
 module _ (s : Bytes) (row : ℕ) (name : Bytes) where
-  pub attribute-is : {a : AttributeAnswer} {x : Asked} → a ≡ attributeTo s row name x → x ≡ askedOf s row → a ≡ attributeOf s row name
+  range-numbers : (x : AttributeAt) → numbers (fromRange x) ≡ rangeNumbers x
+  range-numbers Absent = refl
+  range-numbers (At at len) = refl
+
+  range-values : (x : AttributeAt) → values (fromRange x) ≡ rangeValues x
+  range-values Absent = refl
+  range-values (At at len) = refl
+
+  numbers-is : numbers (attributeOf s row name) ≡ attributeNumbers s row name
+  unfolding attributeOf attributeNumbers
+  numbers-is = asked-by-sheet s row (λ x. numbers (attributeTo s row name x)) (λ l. range-numbers (rangeOf s l row name)) refl (λ v. refl)
+
+  values-is : values (attributeOf s row name) ≡ attributeValues s row name
+  unfolding attributeOf attributeValues
+  values-is = asked-by-sheet s row (λ x. values (attributeTo s row name x)) (λ l. range-values (rangeOf s l row name)) refl (λ v. refl)
+
+  pub attribute-is : {a : AttributeAnswer} {x : Asked} → a ≡ attributeTo s row name x → x ≡ askedOf s row
+      → (a ≡ attributeOf s row name) × (numbers a ≡ attributeNumbers s row name) × (values a ≡ attributeValues s row name)
   unfolding attributeOf
-  attribute-is e q = e ∙ ap (attributeTo s row name) q
+  attribute-is {a} e q =
+      let p : a ≡ attributeTo s row name (askedOf s row) = e ∙ ap (attributeTo s row name) q in
+      (p, ap numbers p ∙ numbers-is, ap values p ∙ values-is)
 
   pub attribute-found : {a : AttributeAnswer} {l : Layout} {r : Row} {x : AttributeAt} {k : ℕ} → a ≡ fromRange x → x ≡ findOf s l name k (r .attributes)
-      → k ≡ countsFrom s l 0 row → Of l r ≡ askedOf s row → a ≡ attributeOf s row name
+      → k ≡ countsFrom s l 0 row → Of l r ≡ askedOf s row → (a ≡ attributeOf s row name) × (numbers a ≡ attributeNumbers s row name) × (values a ≡ attributeValues s row name)
   attribute-found {a} {l} {r} e f g q = attribute-is (e ∙ ap fromRange (f ∙ ap (λ (n : ℕ). findOf s l name n (r .attributes)) g)) q

@@ -5,10 +5,12 @@ pub mod Examples
 pub mod Left
 pub mod NodeLaws
 pub mod Order
+pub mod PageLaws
 pub mod PastLaws
 pub mod Places
 pub mod QuestionsLaws
 pub mod Scans
 pub mod SheetColumn
 pub mod TextLaws
+pub mod TextLengths
 pub mod TreeLaws

@@ -9,7 +9,6 @@ use lib.Dec.{ltb, lit≤}
 use borrow.Author.Tests.{lt-ltb, le-ltb, ltb-true, ltb-false}
 use denote.Enum.Declared.{tagOf}
 use types.Run.{OneOf, miss}
-use Rattle.common.specs.Answer.{refused}
 use Rattle.common.specs.Bytes.{Bytes}
 use Rattle.common.proofs.Choice.{by-test}
 use Rattle.sheet.specs.Accepted.{Accepted}
@@ -28,7 +27,7 @@ use Rattle.tree.specs.declared.questions.Asked.the-variants.{Of, NoRow, 
 use Rattle.tree.specs.declared.questions.Lookup.{Lookup}
 use Rattle.tree.specs.declared.questions.Lookup.the-variants.{There, Missing}
 use Rattle.tree.specs.declared.questions.Relative.{Relative}
-use Rattle.tree.specs.Questions.{onSheet, lookupOf, withRow, askedOf, relativeTo, relativeOf, numbers, rowOrNone, relativeNumbers, fromFound}
+use Rattle.tree.specs.Questions.{onSheet, bySheet, lookupOf, withRow, askedOf, relativeTo, relativeOf, numbers, rowOrNone, relativeNumbers, fromFound}
 
 module _ (s : Bytes) (l : Layout) (i : ℕ) where
   pub lookup-there : {r : Row} → i < l .nodes → r ≡ rowAt s l i → There r ≡ lookupOf s l i
@@ -117,19 +116,26 @@ module _ (s : Bytes) (row : ℕ) where
       by-verdict (Range line) v p = absurd (refused-not _ p)
       by-verdict (Encoding line) v p = absurd (refused-not _ p)
 
+-- what is made of an answer, by the sheet alone
+module _ (s : Bytes) (row : ℕ) {A : Type 0} (f : Asked → A) where
+  pub asked-by-sheet : {there : Layout → A} {missing : A} {refuse : Verdict → A}
+      → ((l : Layout) → f (Of l (rowAt s l row)) ≡ there l) → f (NoRow row) ≡ missing → ((v : Verdict) → f (Refused v) ≡ refuse v)
+      → f (askedOf s row) ≡ bySheet there missing refuse s row
+  unfolding askedOf lookupOf
+  asked-by-sheet {there} {missing} a m r = on-sheet-map f (λ l. at l (ltb row (l .nodes))) r (verdictOf 8 s)
+    where
+      at : (l : Layout) (b : Bool) → f (withRow l row (cond b (There (rowAt s l row)) Missing)) ≡ cond b (there l) missing
+      at l true = a l
+      at l false = m
+
 module _ (relation : List ℕ → ℕ → Option ℕ) (s : Bytes) (row : ℕ) where
   numbers-found : (o : Option ℕ) → numbers (fromFound (foundOf o)) ≡ rowOrNone o
   numbers-found none = refl
   numbers-found (some j) = refl
 
-  numbers-at : (l : Layout) (b : Bool)
-      → numbers (relativeTo relation s row (withRow l row (cond b (There (rowAt s l row)) Missing))) ≡ cond b (rowOrNone (relation (depths s l) row)) (refused 35 row)
-  numbers-at l true = numbers-found (relation (depths s l) row)
-  numbers-at l false = refl
-
   numbers-is : numbers (relativeOf relation s row) ≡ relativeNumbers relation s row
-  unfolding relativeOf askedOf lookupOf relativeNumbers
-  numbers-is = on-sheet-map (λ x. numbers (relativeTo relation s row x)) (λ l. numbers-at l (ltb row (l .nodes))) (λ v. refl) (verdictOf 8 s)
+  unfolding relativeOf relativeNumbers
+  numbers-is = asked-by-sheet s row (λ x. numbers (relativeTo relation s row x)) (λ l. numbers-found (relation (depths s l) row)) refl (λ v. refl)
 
   -- an answer that is right has the right numbers
   pub relative-is : {r : Relative} {a : Asked} → r ≡ relativeTo relation s row a → a ≡ askedOf s row

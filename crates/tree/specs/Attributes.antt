@@ -5,12 +5,12 @@ use mathlib.Core.Option.{Option, none, some}
 use Prim.Native.Nat.{ℕ, zero, suc}
 use Rattle.common.specs.Answer.{Answer, refused, written}
 use Rattle.common.specs.Bytes.{Bytes, same}
-use Rattle.sheet.specs.Layout.{attributeAt, range}
+use Rattle.sheet.specs.Layout.{attributeAt, range, rowAt}
 use Rattle.sheet.specs.Verdict.{countsFrom}
 use Rattle.sheet.specs.Verdict as verdict
 use Rattle.sheet.specs.declared.line.Layout.{Layout}
 use Rattle.tree.specs.Node.{Attribute}
-use Rattle.tree.specs.Questions.{askedOf}
+use Rattle.tree.specs.Questions.{askedOf, bySheet}
 use Rattle.tree.specs.declared.attributes.AttributeAnswer.{AttributeAnswer}
 use Rattle.tree.specs.declared.attributes.AttributeAnswer as answer
 use Rattle.tree.specs.declared.attributes.AttributeAt.{AttributeAt}
@@ -68,3 +68,21 @@ values answer.the-variants.Absent = []
 values (answer.the-variants.At at len) = at ∷ len ∷ []
 values (answer.the-variants.NoRow i) = []
 values (answer.the-variants.Refused v) = []
+
+-- the numbers and the values of the whole answer, by the sheet alone
+abbrev pub rangeNumbers : AttributeAt → Answer
+rangeNumbers Absent = written 0
+rangeNumbers (At at len) = written len
+
+abbrev pub rangeValues : AttributeAt → List ℕ
+rangeValues Absent = []
+rangeValues (At at len) = at ∷ len ∷ []
+
+abbrev pub rangeOf : Bytes → Layout → ℕ → Bytes → AttributeAt
+rangeOf s l row name = findOf s l name (countsFrom s l 0 row) (rowAt s l row .attributes)
+
+unfoldable pub attributeNumbers : Bytes → ℕ → Bytes → Answer
+attributeNumbers s row name = bySheet (λ l. rangeNumbers (rangeOf s l row name)) (refused 35 row) verdict.numbers s row
+
+unfoldable pub attributeValues : Bytes → ℕ → Bytes → List ℕ
+attributeValues s row name = bySheet (λ l. rangeValues (rangeOf s l row name)) [] (λ v. []) s row

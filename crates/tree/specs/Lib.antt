@@ -5,4 +5,5 @@ pub mod Page
 pub mod Questions
 pub mod Rows
 pub mod TextContent
+pub mod TextLength
 pub mod Tree

@@ -45,6 +45,10 @@ withRow l row Missing = asked.the-variants.NoRow row
 unfoldable pub askedOf : Bytes → ℕ → Asked
 askedOf s row = onSheet (λ l. withRow l row (lookupOf s l row)) asked.the-variants.Refused (verdictOf 8 s)
 
+-- an answer by the sheet alone: of a row that is there, of one that is not, of a sheet that is refused
+abbrev pub bySheet : {A : Type 0} → (Layout → A) → A → (Verdict → A) → Bytes → ℕ → A
+bySheet there missing refuse s row = onSheet (λ l. cond (ltb row (l .nodes)) (there l) missing) refuse (verdictOf 8 s)
+
 -- "a parent, child, sibling .. that the tree lacks is a plain \"none\""
 abbrev pub fromFound : Found → Relative
 fromFound (found.the-variants.At j) = Row j
@@ -76,5 +80,4 @@ rowOrNone (some j) = rowFound j
 
 -- the numbers of the whole answer, by the sheet alone
 unfoldable pub relativeNumbers : (List ℕ → ℕ → Option ℕ) → Bytes → ℕ → Answer
-relativeNumbers relation s row =
-    onSheet (λ l. cond (ltb row (l .nodes)) (rowOrNone (relation (depths s l) row)) (refused 35 row)) verdict.numbers (verdictOf 8 s)
+relativeNumbers relation s row = bySheet (λ l. rowOrNone (relation (depths s l) row)) (refused 35 row) verdict.numbers s row

@@ -10,7 +10,7 @@ ghost use mathlib.Core.Path.{_≡_};
 ghost use Prim.Native.Nat.{_+_, _≤_};
 ghost use Rattle.sheet.specs.Accepted.{Accepted};
 ghost use Rattle.sheet.specs.Verdict.{countsFrom};
-ghost use Rattle.tree.specs.Attributes.{attributeOf, findOf, fromRange};
+ghost use Rattle.tree.specs.Attributes.{attributeNumbers, attributeOf, attributeValues, findOf, fromRange, numbers, values};
 
 // Where the value of an attribute lies in the pool.
 pub enum AttributeAt {
@@ -69,7 +69,7 @@ fn from_range(a: AttributeAt) -> AttributeAnswer
 }
 
 pub fn attribute_of(s: &[u8], row: usize, name: &[u8]) -> AttributeAnswer
-    ensures { λ r. ⌜ r ≡ attributeOf (now (s .entry)) row (now (name .entry)) ⌝ }
+    ensures { λ r. ⌜ (r ≡ attributeOf (now (s .entry)) row (now (name .entry))) × (numbers r ≡ attributeNumbers (now (s .entry)) row (now (name .entry))) × (values r ≡ attributeValues (now (s .entry)) row (now (name .entry))) ⌝ }
 {
     match ask(s, row) {
         Asked::Of(l, r) => {

@@ -1,4 +1,5 @@
 // The DOM tree of an accepted sheet.
 pub mod attributes;
+pub mod content;
 pub mod questions;
 pub mod relatives;

@@ -1,0 +1,146 @@
+-- The walk of an accepted sheet's page has at most 40,000 events, and each adds at most six times the pool and a few bytes.
+use mathlib.Core.Path.{_≡_}
+use mathlib.Core.Bool.{Bool, true, false, _&&_, _||_, not, cond}
+use mathlib.Core.List.{List, [], _∷_, _++_}
+use mathlib.Core.Option.{some, Option·getD}
+use Prim.Native.Nat.{ℕ, zero, suc, _+_, _*_, _≤_}
+use native.Mathlib.Omega.{arith}
+use lib.ListN.{length, take, drop, length-append, length-take, length-drop}
+use Rattle.common.specs.Bytes.{Bytes, codes, same}
+use Rattle.common.proofs.Choice.{by-cond}
+use Rattle.options.specs.Options.{isMinimalHtml}
+use Rattle.options.specs.declared.ExtractOptions.{ExtractOptions}
+use Rattle.options.specs.declared.Formatting.{Formatting}
+use Rattle.options.specs.declared.Formatting.the-variants.{Off, Basic, MinimalHtml}
+use Rattle.sheet.specs.Accepted.{Accepted}
+use Rattle.sheet.specs.Layout.{poolStart, rowAt, attributeAt, range}
+use Rattle.sheet.specs.Notes.{Sized}
+use Rattle.sheet.specs.Verdict.{countsFrom}
+use Rattle.sheet.specs.declared.line.Layout.{Layout}
+use Rattle.sheet.proofs.LayoutLaws.{depths-from-length}
+use Rattle.tags.specs.Tags.{isA, isTextarea, isImage, isButton, isInput}
+use Rattle.text.specs.Text.{isSpace, trim, escape}
+use Rattle.text.proofs.EscapeLaws.{escape-length}
+use Rattle.text.proofs.TrimLaws.{trim-length}
+use Rattle.tree.specs.Attributes.{nameAt, valueAt, attributesFrom}
+use Rattle.tree.specs.Forest.{Forest, empty, node}
+use Rattle.tree.specs.Node.{Node, attribute, attributeOrEmpty}
+use Rattle.tree.specs.Page.{nodeAt, pageOf}
+use Rattle.tree.proofs.NodeLaws.{by-kind}
+use Rattle.html2text.specs.Bounds.{mostAdded, Adds, EachAdds, EventsBounded}
+use Rattle.html2text.specs.Collect.{Event, tagNumber, attr, isLink, isBreak, linkText, isUnshownType, fieldValue, addedByElement, added}
+use Rattle.html2text.specs.Serialize.{isEmpty, one}
+use Rattle.html2text.specs.Walk.{hasTrees, leftOut, eventAt, events, visits, treeOf}
+use Rattle.html2text.proofs.BoundLaws.{each-append}
+use Rattle.html2text.proofs.PageLaws.{page-right}
+use Rattle.html2text.proofs.WalkLaws.{walk-of-tree}
+
+-- ---- what an event adds, where no value is longer than p
+
+record Short (p : ℕ) (n : Node) : Type 0 where
+  value : length (n .value) ≤ p
+  attributes : (name : Bytes) → length (attr n name) ≤ p
+
+module _ {p : ℕ} (o : ExtractOptions) (n : Node) (short : Short p n) where
+  Fits : Bytes → Type 0
+  Fits s = length s ≤ 6 * p + 11
+
+  link-fits : (f : Formatting) (end : Bool) (href : Bytes) → length href ≤ p → Fits (linkText f end href)
+  unfolding Fits codes
+  link-fits Off end href h = by-cond Fits end (λ e. omega (arith, trim-length isSpace href, length-append (trim href) (codes ")"))) (λ e. omega arith)
+  link-fits Basic end href h = by-cond Fits end (λ e. omega (arith, trim-length isSpace href, length-append (trim href) (codes ")"))) (λ e. omega arith)
+  link-fits MinimalHtml end href h =
+      by-cond Fits end (λ e. omega arith) (λ e. omega (arith, trim-length isSpace href, escape-length (trim href), length-append (escape (trim href)) (codes "\">")))
+
+  field-fits : length (fieldValue n) ≤ p
+  field-fits =
+      by-cond (λ (s : Bytes). length s ≤ p) (isEmpty (trim (attr n (codes "value")))) (λ e. short .attributes (codes "placeholder")) (λ e. short .attributes (codes "value"))
+
+  element-fits : (end : Bool) → Fits (addedByElement o n end)
+  unfolding Fits addedByElement codes
+  element-fits end =
+      let t = tagNumber n in
+      by-cond Fits (isBreak o t) (λ e. omega arith)
+      (λ e. by-cond Fits (isLink o t) (λ _. link-fits (o .formatting) end (attr n (codes "href")) (short .attributes (codes "href")))
+      (λ _. by-cond Fits (o .«alt_texts» && isImage t) (λ _. omega (arith, short .attributes (codes "alt")))
+      (λ _. by-cond Fits (o .«form_fields» && (isTextarea t || isButton t)) (λ _. by-cond Fits end (λ _. omega arith) (λ _. omega arith))
+      (λ _. by-cond Fits (o .«form_fields» && (isInput t && not (isUnshownType (trim (attr n (codes "type"))))))
+      (λ _. by-cond Fits (isEmpty (trim (fieldValue n))) (λ _. omega arith) (λ _. omega (arith, field-fits, trim-length isSpace (fieldValue n), length-append (trim (fieldValue n)) (codes " ] "))))
+      (λ _. omega arith)))))
+
+  added-fits : (end : Bool) (current : ℕ) → Fits (added o n end current)
+  unfolding Fits added
+  added-fits end current =
+      by-kind (n .kind) (λ e. rw (e, added) (element-fits end))
+      (λ e. rw (e, added) (by-cond Fits (isMinimalHtml (o .formatting) && isA current) (λ _. omega (arith, short .value, escape-length (n .value))) (λ _. omega (arith, short .value))))
+      (λ e. rw (e, added) (omega arith))
+
+-- ---- the rows of a sheet: every value is a range of the pool
+
+part-short : (s : Bytes) (start pool at len : ℕ) → length s ≡ start + pool → length (take len (drop (start + at) s)) ≤ pool
+part-short s start pool at len h = omega (arith, length-take len (drop (start + at) s), length-drop (start + at) s)
+
+module _ {s : Bytes} {l : Layout} (sized : Sized s l) where
+  range-short : (at len : ℕ) → length (range s l at len) ≤ l .pool
+  range-short at len = part-short s (poolStart l) (l .pool) at len (sized .size)
+
+  attribute-short : (name : Bytes) (j n : ℕ) → length (attributeOrEmpty (attributesFrom s l j n) name) ≤ l .pool
+  unfolding attributesFrom attribute
+  attribute-short name j zero = omega arith
+  attribute-short name j (suc n) = go (same (nameAt s l j) name) (attribute-short name (suc j) n)
+    where
+      go : (b : Bool) → length (attributeOrEmpty (attributesFrom s l (suc j) n) name) ≤ l .pool
+          → length (Option·getD {A = Bytes} (elim b [ true ↦ some (valueAt s l j) | false ↦ attribute (attributesFrom s l (suc j) n) name ]) []) ≤ l .pool
+      go true h = range-short (attributeAt s l j .«value_at») (attributeAt s l j .«value_len»)
+      go false h = h
+
+  node-short : (i : ℕ) → Short (l .pool) (nodeAt s l i)
+  unfolding nodeAt
+  node-short i =
+      record {
+        value = range-short (rowAt s l i .«value_at») (rowAt s l i .«value_len»);
+        attributes = λ name. attribute-short name (countsFrom s l 0 i) (rowAt s l i .attributes);
+      }
+
+  node-adds : (o : ExtractOptions) (i : ℕ) (end : Bool) (current : ℕ) → length (added o (nodeAt s l i) end current) ≤ mostAdded
+  unfolding Fits
+  node-adds o i end current = omega (arith, sized .pool, added-fits o (nodeAt s l i) (node-short i) end current)
+
+-- ---- the walk
+
+-- a row's events, those below it and those behind it, beside its passes
+row-few : (left children : Bool) (begin end : Event) (below rest : List Event) (v w : ℕ) → length below ≤ v → length rest ≤ w
+    → length (cond left [] (begin ∷ (below ++ cond children (end ∷ []) [])) ++ rest) ≤ cond left 1 (1 + one children + v) + w
+row-few true children begin end below rest v w h k = omega arith
+row-few false true begin end below rest v w h k = omega (arith, length-append (below ++ end ∷ []) rest, length-append below (end ∷ []))
+row-few false false begin end below rest v w h k = omega (arith, length-append (below ++ []) rest, length-append below [])
+
+row-adds : (o : ExtractOptions) (left children : Bool) (begin end : Event) (below rest : List Event) → Adds o begin → Adds o end → EachAdds o below → EachAdds o rest
+    → EachAdds o (cond left [] (begin ∷ (below ++ cond children (end ∷ []) [])) ++ rest)
+row-adds o true children begin end below rest a b h k = k
+row-adds o false true begin end below rest a b h k = (a, each-append o (below ++ end ∷ []) rest (each-append o below (end ∷ []) h (b, tt)) k)
+row-adds o false false begin end below rest a b h k = (a, each-append o (below ++ []) rest (each-append o below [] h tt) k)
+
+module _ (nodeOf : ℕ → Node) (hidden : ℕ → Bool) where
+  events-few : (d : ℕ) (f : Forest ℕ) → length (events nodeOf hidden d f) ≤ visits nodeOf hidden f
+  unfolding events visits
+  events-few d empty = omega arith
+  events-few d (node i children rest) =
+      row-few (leftOut nodeOf hidden i) (hasTrees children) (eventAt nodeOf hidden i (hasTrees children) d false) (eventAt nodeOf hidden i true d true) (events nodeOf hidden (suc d) children) (events nodeOf hidden d rest)
+      (visits nodeOf hidden children) (visits nodeOf hidden rest) (events-few (suc d) children) (events-few d rest)
+
+  events-add : (o : ExtractOptions) → ((i : ℕ) (end : Bool) (current : ℕ) → length (added o (nodeOf i) end current) ≤ mostAdded)
+      → (d : ℕ) (f : Forest ℕ) → EachAdds o (events nodeOf hidden d f)
+  unfolding events
+  events-add o short d empty = tt
+  events-add o short d (node i children rest) =
+      row-adds o (leftOut nodeOf hidden i) (hasTrees children) (eventAt nodeOf hidden i (hasTrees children) d false) (eventAt nodeOf hidden i true d true) (events nodeOf hidden (suc d) children) (events nodeOf hidden d rest)
+      (record { short = short i false }) (record { short = short i true }) (events-add o short (suc d) children) (events-add o short d rest)
+
+pub events-bounded : {s : Bytes} {l : Layout} → Accepted s l → (hidden : ℕ → Bool) (o : ExtractOptions) → EventsBounded s l hidden o
+events-bounded {s} {l} accepted hidden o =
+    let p = pageOf s l in
+    record {
+      few = omega (arith, events-few (nodeAt s l) hidden 0 (treeOf p), walk-of-tree p hidden o (page-right accepted) .most, depths-from-length s l 0 (l .nodes), accepted .sized .nodes);
+      each = events-add (nodeAt s l) hidden o (node-adds (accepted .sized) o) 0 (treeOf p);
+    }

@@ -1,0 +1,184 @@
+-- One row's step as the code makes it, that its sums stay small, and what the pass gives.
+use mathlib.Core.Path.{_≡_, refl, sym, ap, _∙_}
+use mathlib.Core.Bool.{Bool, true, false}
+use mathlib.Core.List.{List, [], _∷_}
+use Prim.Native.Nat.{ℕ, zero, suc, _+_, _-_, _*_, _≤_, _<_, min}
+use native.Mathlib.Omega.{arith}
+use native.Mathlib.Numerals.{add-one}
+use lib.ListN.{length, getD, set, replicate, length-set, length-append}
+use Rattle.common.specs.Bytes.{Bytes}
+use Rattle.common.proofs.Choice.{by-test}
+use Rattle.sheet.specs.Accepted.{Accepted}
+use Rattle.sheet.specs.Layout.{rowAt, depths}
+use Rattle.sheet.specs.declared.line.Layout.{Layout}
+use Rattle.sheet.specs.declared.line.Row.{Row}
+use Rattle.sheet.proofs.LayoutLaws.{depths-from-length}
+use Rattle.text.specs.Text.{isSpace, squeezed, collapseFrom, spaceAfter, collapse, collapseBy}
+use Rattle.tree.specs.Node.{Node}
+use Rattle.tree.specs.Page.{nodeAt}
+use Rattle.tree.specs.Rows.{rowsFrom, pastOf}
+use Rattle.tree.specs.TextContent.{textData}
+use Rattle.tree.proofs.Column.{below-length, depth-is, depth-small}
+use Rattle.tree.proofs.Descendants.{descendants}
+use Rattle.tree.proofs.PastLaws.{past-of-low, past-of-high}
+use Rattle.tree.proofs.SheetColumn.{well-formed}
+use Rattle.tree.proofs.TextLengths.{length-small}
+use Rattle.links.specs.Counting.{countsOf, withText, lowered, countRow, aroundAfter, Room, CountsUpTo}
+use Rattle.links.specs.Links.{isLink, textBytes, linksAmong, linkBytes}
+use Rattle.links.specs.declared.counts.Counting.{Counting}
+use Rattle.links.specs.declared.counts.Counts.{Counts}
+use Rattle.links.proofs.Counted.{Counted, counted-more}
+use Rattle.links.proofs.LinkLaws.{link-no-data}
+use Rattle.links.proofs.Paths.{below-mono, below-most}
+
+-- ---- a text by itself, and behind a blank
+
+pub own-empty : (space : Bool) (t : Bytes) → length t ≡ 0 → length (collapseFrom isSpace space t) ≡ length (collapse t)
+unfolding collapseBy collapseFrom
+own-empty space [] e = refl
+own-empty space (b ∷ t) e = absurd (omega arith)
+
+pub own-blank : (space : Bool) (t : Bytes) → space ≡ true → (length t ≡ 0 → ⊥) → isSpace (getD t 0 0) ≡ true → length (collapseFrom isSpace space t) + 1 ≡ length (collapse t)
+unfolding collapseBy collapseFrom
+own-blank space [] s n e = absurd (n refl)
+own-blank space (b ∷ t) s n e = rw (s, e) (omega arith)
+
+pub own-other : (space : Bool) (t : Bytes) → isSpace (getD t 0 0) ≡ false → length (collapseFrom isSpace space t) ≡ length (collapse t)
+unfolding collapseBy collapseFrom
+own-other space [] e = refl
+own-other space (b ∷ t) e = rw e
+
+pub own-start : (space : Bool) (t : Bytes) → space ≡ false → length (collapseFrom isSpace space t) ≡ length (collapse t)
+unfolding collapseBy
+own-start space t e = rw e
+
+-- ---- one text more
+
+module _ (c : Counting) (depth above old : ℕ) (t : Bytes) where
+  pub with-none : length t ≡ 0 → c ≡ withText c depth above old t
+  with-none e = go t e
+    where
+      go : (t : Bytes) → length t ≡ 0 → c ≡ withText c depth above old t
+      go [] e = refl
+      go (b ∷ t) e = absurd (omega arith)
+
+  module _ (some : length t ≡ 0 → ⊥) {len own : ℕ} (len-is : len ≡ length (collapseFrom isSpace (c .space) t)) (own-is : own ≡ length (collapse t)) where
+    pub with-some : {space : Bool} → space ≡ spaceAfter isSpace (c .space) t
+        → record { text = c .text + len; links = c .links + old * len + (above - old) * own; space = space; low = depth } ≡ withText c depth above old t
+    with-some {space} s = rw (len-is, own-is, s) (go t some)
+      where
+        go : (t : Bytes) → (length t ≡ 0 → ⊥)
+            → record { text = c .text + length (collapseFrom isSpace (c .space) t); links = c .links + old * length (collapseFrom isSpace (c .space) t) + (above - old) * length (collapse t); space = spaceAfter isSpace (c .space) t; low = depth }
+            ≡ withText c depth above old t
+        go [] n = absurd (n refl)
+        go (b ∷ t) n = refl
+
+    pub some-text : withText c depth above old t .text ≡ c .text + len
+    some-text = sym (ap (λ (k : Counting). k .text) (with-some refl))
+
+    pub some-links : withText c depth above old t .links ≡ c .links + old * len + (above - old) * own
+    some-links = sym (ap (λ (k : Counting). k .links) (with-some refl))
+
+-- ---- one row more
+
+module _ (n : Node) (depth : ℕ) (c : Counting) (around : List ℕ) {low : ℕ} (low-is : low ≡ min (c .low) depth) where
+  pub row-other : textData n ≡ [] → record { text = c .text; links = c .links; space = c .space; low = low } ≡ countRow n depth c around
+  row-other e = rw (e, low-is)
+
+  pub row-text : {t : Bytes} {r : Counting} {above old : ℕ} → textData n ≡ t → above ≡ getD around depth 0 → old ≡ getD around low 0
+      → r ≡ withText (record { text = c .text; links = c .links; space = c .space; low = low }) depth above old t → r ≡ countRow n depth c around
+  row-text e a o q = q ∙ rw (a, o, low-is, ← e)
+
+  pub row-room : {t : Bytes} → textData n ≡ t → Room n depth c around
+      → let k = withText (record { text = c .text; links = c .links; space = c .space; low = low }) depth (getD around depth 0) (getD around low 0) t in
+      (getD around low 0 ≤ getD around depth 0) × (k .text ≤ 20000 * 4194304) × (k .links ≤ 20000 * (20000 * 4194304))
+  row-room {t} e r =
+      let q = row-text e refl refl refl in
+      (rw low-is (r .ordered), rw q (r .text), rw q (r .links))
+
+module _ (n : Node) (depth : ℕ) (around : List ℕ) where
+  pub around-link : isLink n ≡ true → set around (depth + 1) (getD around depth 0 + 1) ≡ aroundAfter n depth around
+  around-link e = rw (e, add-one, add-one)
+
+  pub around-other : isLink n ≡ false → set around (depth + 1) (getD around depth 0) ≡ aroundAfter n depth around
+  around-other e = rw (e, add-one)
+
+  pub around-length : length (aroundAfter n depth around) ≡ length around
+  around-length = simp length-set
+
+pub zeros : (n e : ℕ) → _≡_ {A = ℕ} (getD (replicate n 0) e 0) 0
+zeros zero e = refl
+zeros (suc n) zero = refl
+zeros (suc n) (suc e) = zeros n e
+
+-- ---- the sums stay small
+
+module _ {s : Bytes} {l : Layout} (a : Accepted s l) where
+  pub depth-most : {r : Row} (j : ℕ) → j < l .nodes → r ≡ rowAt s l j → r .depth ≤ 500
+  depth-most j h e = rw e (depth-small s l a j h)
+
+  links-rows-small : (i n : ℕ) → i + n ≤ l .nodes → linksAmong (nodeAt s l) (depths s l) (rowsFrom i n) ≤ n * (20000 * 4194304)
+  unfolding linksAmong rowsFrom
+  links-rows-small i zero h = omega arith
+  links-rows-small i (suc n) h =
+      let r = links-rows-small (suc i) n (omega arith) in
+      by-test (isLink (nodeAt s l i))
+      (λ e. rw (e, linksAmong) (omega (arith, length-small a i (omega arith))))
+      (λ e. rw (e, linksAmong) (omega arith))
+
+  pub links-small : (i : ℕ) → i < l .nodes → linkBytes (nodeAt s l) (depths s l) i ≤ 20000 * (20000 * 4194304)
+  unfolding linkBytes
+  links-small i h =
+      let d = depths s l in
+      let rows : length d ≡ l .nodes = depths-from-length s l 0 (l .nodes) in
+      let past : pastOf d i ≤ l .nodes = omega (arith, past-of-high d i (below-length s l i h)) in
+      rw (descendants d (well-formed a) i)
+      (omega (arith, links-rows-small (suc i) (pastOf d i - suc i) (omega (arith, past-of-low d i)), a .sized .nodes))
+
+  module _ {i j : ℕ} {c : Counting} {around : List ℕ} (h : i < l .nodes) (k : Counted (nodeAt s l) (depths s l) i j c around) where
+    pub counted-text-most : c .text ≤ textBytes (nodeAt s l) (depths s l) i
+    counted-text-most = omega (arith, k .text-sum)
+
+    pub counted-text-small : c .text ≤ 20000 * 4194304
+    counted-text-small = omega (arith, counted-text-most, length-small a i h)
+
+    pub counted-links-small : c .links ≤ 20000 * (20000 * 4194304)
+    counted-links-small = omega (arith, k .links-sum, links-small i h)
+
+    -- row j, which stands below row i
+    module _ {r : Row} (g : j < l .nodes) (r-is : r ≡ rowAt s l j) (deeper : getD (depths s l) i 0 < r .depth) (size : length around ≡ 502) where
+      depth-here : r .depth ≡ getD (depths s l) j 0
+      depth-here = depth-is s l j g (ap (λ (r : Row). r .depth) r-is)
+
+      x-most : r .depth ≤ k .top
+      x-most = omega (arith, depth-here, k .next (below-length s l j g))
+
+      next : Counted (nodeAt s l) (depths s l) i (j + 1) (countRow (nodeAt s l j) (r .depth) c around) (aroundAfter (nodeAt s l j) (r .depth) around)
+      next =
+          counted-more (nodeAt s l) (depths s l) (well-formed a) i k (r .depth) (below-length s l j g) depth-here deeper (omega (arith, depth-most j g r-is))
+
+      pub counted-step : {n : Counting} {after : List ℕ} → n ≡ countRow (nodeAt s l j) (r .depth) c around → after ≡ aroundAfter (nodeAt s l j) (r .depth) around
+          → Counted (nodeAt s l) (depths s l) i (j + 1) n after
+      counted-step p q = rw (p, q) next
+
+      pub counted-room : Room (nodeAt s l j) (r .depth) c around
+      counted-room =
+          let m = min (c .low) (r .depth) in
+          record {
+            size = size;
+            ordered = omega (arith, k .around-is m (omega (arith, x-most)), k .around-is (r .depth) x-most, below-mono m (r .depth) (k .path) (omega arith));
+            few = omega (arith, k .around-is (r .depth) x-most, below-most (r .depth) (k .path), k .few, a .sized .nodes);
+            text = omega (arith, next .text-sum, length-small a i h);
+            links = omega (arith, next .links-sum, links-small i h);
+          }
+
+  -- ---- what the pass gives
+
+  module _ (most : ℕ) {i : ℕ} (c : Counting) where
+    pub pass-exact : (c .text ≡ textBytes (nodeAt s l) (depths s l) i) × (c .links ≡ linkBytes (nodeAt s l) (depths s l) i)
+        → CountsUpTo most (nodeAt s l) (depths s l) i (record { text = c .text; links = c .links })
+    pass-exact e = record { within = λ h. rw (e .0, e .1); beyond = λ h. omega (arith, e .0) }
+
+    pub pass-beyond : {j : ℕ} {around : List ℕ} → Counted (nodeAt s l) (depths s l) i j c around → most < c .text
+        → CountsUpTo most (nodeAt s l) (depths s l) i (record { text = c .text; links = c .links })
+    pass-beyond k g = record { within = λ h. absurd (omega (arith, k .text-sum)); beyond = λ h. g }

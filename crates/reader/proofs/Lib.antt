@@ -1,0 +1,2 @@
+pub mod DemandsLaws
+pub mod PagesLaws

@@ -1,0 +1,65 @@
+-- The three demands, over what `extract` promises (src/lib.rt): the answer `extractionOf`, and `outAfterOf` and `workAfterOf`.
+use mathlib.Core.Path.{_≡_}
+use mathlib.Core.Bool.{Bool, true, false, _||_}
+use mathlib.Core.List.{List, [], _∷_}
+use Prim.Native.Nat.{ℕ}
+use lib.Dec.{eqb}
+use lib.ListN.{length}
+use Rattle.common.specs.Answer.{Answer}
+use Rattle.common.specs.Bytes.{Bytes, padded}
+use Rattle.html2text.specs.Demand3 as html2text
+use Rattle.html2text.specs.Extract.{hidden, concluded, workNeedOf, serialized, numbers}
+use Rattle.html2text.specs.Walk.{Sofar, loop}
+use Rattle.html2text.specs.declared.Extraction.{Extraction}
+use Rattle.html2text.specs.declared.Extraction.the-variants.{Refused}
+use Rattle.options.specs.declared.ExtractOptions.{ExtractOptions}
+use Rattle.sheet.specs.Verdict.{verdictOf}
+use Rattle.sheet.specs.declared.line.Layout.{Layout}
+use Rattle.sheet.specs.declared.verdict.Verdict.the-variants.{Sheet}
+use Rattle.tree.specs.Page.{Page, pageOf}
+use Rattle.reader.specs.Extraction.{filters, extractionOf, outAfterOf, workAfterOf}
+
+-- ---- 1: "Every call comes back, with a whole text or with the number that document 01 fixes, each lent buffer in the state named there"
+
+unfoldable pub isOneOf : ℕ → List ℕ → Bool
+isOneOf n [] = false
+isOneOf n (m ∷ ms) = eqb n m || isOneOf n ms
+
+-- 0 and the numbers that an extraction can be refused with
+abbrev pub isNumber : ℕ → Bool
+isNumber n = isOneOf n (0 ∷ 11 ∷ 12 ∷ 13 ∷ 14 ∷ 15 ∷ 16 ∷ 17 ∷ 21 ∷ 22 ∷ 31 ∷ 32 ∷ [])
+
+module _ (s : Bytes) (o : ExtractOptions) (out work : Bytes) where
+  abbrev pub answer : Answer
+  answer = numbers (extractionOf s o (length out) (length work))
+
+  pub record Demand1 : Type 0 where
+    pub number : isNumber (answer .number) ≡ true
+    -- "After a text: work is all zero, out holds the text and zeros behind it."
+    pub text : answer .number ≡ 0 → (t : Bytes) × (answer .length ≡ length t) × (outAfterOf s o out work ≡ padded t (length out)) × (workAfterOf s o work ≡ padded [] (length work))
+    -- "After a refusal out is unchanged. .. A refusal has visits 0 and length 0."
+    pub refused : (answer .number ≡ 0 → ⊥) → (outAfterOf s o out work ≡ out) × (answer .visits ≡ 0) × (answer .length ≡ 0)
+    -- "Work is unchanged too, except after 32, when it is all zero."
+    pub kept : (answer .number ≡ 0 → ⊥) → (answer .number ≡ 32 → ⊥) → workAfterOf s o work ≡ work
+    pub cleared : answer .number ≡ 32 → workAfterOf s o work ≡ padded [] (length work)
+
+-- ---- 2: "For each accepted sheet, with our added options at 0, the text equals that of the Rust walk on the same tree, root, marks and options."
+
+-- the Rust's loop over the rows: its entries and its passes
+abbrev pub rustLoop : Page → ExtractOptions → Sofar
+rustLoop p o = loop p (hidden (filters (p .node) (p .depths) (p .root) o) p o) o
+
+-- `serialize` of the loop's entries; the Rust has no numbers 21, 22, 31 and 32
+abbrev pub rustExtraction : Page → ExtractOptions → ℕ → ℕ → Extraction
+rustExtraction p o out work =
+    concluded (workNeedOf p o (rustLoop p o .nodes)) (rustLoop p o .passes) (serialized o (rustLoop p o .nodes)) out work
+
+abbrev pub Demand2 : Type 0
+Demand2 =
+    (s : Bytes) (l : Layout) (o : ExtractOptions) (out work : ℕ) → verdictOf 8 s ≡ Sheet l → o .icons ≡ false
+    → extractionOf s o out work ≡ rustExtraction (pageOf s l) o out work
+
+-- ---- 3: blanks, and pieces of one and of two extractions
+
+abbrev pub Demand3 : Type 0
+Demand3 = html2text.Demand3 filters

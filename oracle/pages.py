@@ -1,0 +1,291 @@
+#!/usr/bin/env python3
+"""Sheets of pages.
+pages.py worked > cases: document 01's pages, and those that show a quirk of the Rust.
+pages.py long > cases: pages that need 16,384 bytes of work or of out, one less and one more.
+pages.py check < answers: whether the answers to these cases have the texts that document 01 and the list below give. Answers of
+the Rust to a page with icons 1 (33) are passed over.
+pages.py real COUNT > cases: pages of Debian's documentation packages, read by html5lib (Debian's python3-html5lib), each under
+several option lines. Packages used: python3.11-doc apache2-doc sqlite3-doc postgresql-doc-15 python-django-doc
+developers-reference debian-reference-en debian-faq git-doc, and what else is in /usr/share/doc."""
+import glob
+import gzip
+import re
+import sys
+
+ELEMENT, TEXT, COMMENT = 1, 3, 8
+MOST_ROWS, MOST_ATTRIBUTES, MOST_BYTES, MOST_DEPTH = 20000, 60000, 4194304, 500
+
+# ---- a page as rows: [depth, kind, marked, name, value, attributes]
+
+
+def sheet(rows, root=0):
+    pool, nodes, attributes, known = bytearray(), [], [], {}
+
+    def put(s):
+        s = s.encode()
+        if s not in known:
+            known[s] = len(pool)
+            pool.extend(s)
+        return [known[s], len(s)]
+
+    for depth, kind, marked, name, value, attrs in rows:
+        nodes.append([depth, kind, int(marked)] + put(name) + put(value) + [len(attrs)])
+        for n, v in attrs:
+            attributes.append(put(n) + put(v))
+    line = lambda numbers: b"".join(b"%8d" % n for n in numbers) + b"\n"
+    header = [len(nodes), len(attributes), len(pool), root]
+    assert header[0] <= MOST_ROWS and header[1] <= MOST_ATTRIBUTES and header[2] <= MOST_BYTES and max(r[0] for r in rows) <= MOST_DEPTH
+    return b"".join(map(line, [header] + nodes + attributes)) + bytes(pool)
+
+
+def framed(options, page):
+    case = options.encode() + b"\n" + page
+    return b"%8d\n" % len(case) + case
+
+
+# ---- pages written as marked-up text: `<x/>` is childless, a `*` before a name marks the row, `!` makes it the root
+
+
+def written(markup):
+    rows, depth, root = [[0, ELEMENT, False, "body", "", []]], 1, 0
+    for part in re.findall(r"<!--.*?-->|<[^>]*>|[^<]+", markup, re.S):
+        if part.startswith("<!--"):
+            rows.append([depth, COMMENT, False, "", part[4:-3], []])
+        elif part.startswith("</"):
+            depth -= 1
+        elif part.startswith("<"):
+            flags, name = re.match(r"<([*!]*)([^\s/>]*)", part).groups()
+            attrs = [(n, v.replace("&lt;", "<").replace("&gt;", ">")) for n, v in re.findall(r'\s([\w-]+)="([^"]*)"', part)]
+            root = len(rows) if "!" in flags else root
+            rows.append([depth, ELEMENT, "*" in flags, name, "", attrs])
+            depth += not part.endswith("/>")
+        else:
+            rows.append([depth, TEXT, False, "", part, []])
+    assert depth == 1
+    return sheet(rows, root)
+
+
+STANDING = "1011001100"
+OFF = "0011001100"
+HTML = "2011001100"
+MAIN = "1111001100"
+
+
+def linked(total, links):
+    """Document 01's rule (0.2, 500): an article at depth 3 with so many bytes, so many of them in a link."""
+    return "<div><div><article>%s<a>%s</a></article></div></div>" % ("x" * (total - links), "y" * links)
+
+
+# what document 01 says, "Pages and their texts"
+DOCUMENT = [
+    (STANDING, "", ""),
+    (STANDING, "<ul><li>a</li><li>b</li></ul>", "  • a\n  • b"),
+    (STANDING, "<li>a</li><p>b</p>", "  • a\n\n    • b"),
+    (STANDING, "<ul/><p>b</p>", "    b"),
+    (OFF, "<span><div>a</div></span> b", "a  b"),
+    (OFF, " x", " x"),
+    (STANDING, "<tr><td>1</td><td>2</td></tr>", "1\t\t2"),
+    (OFF, "<tr><td>1</td><td>2</td></tr>", "1 2"),
+    (STANDING, "<tr><td>1</td>x</tr>", "1"),
+    (STANDING, "a<br/><br/>b", "a\n\nb"),
+    ("1011101100", '<a href=" u ">t</a>', "t (u)"),
+    (HTML, "<p>a&b</p>", "<p>a&amp;b</p>"),
+    (MAIN, "<td>−<b>0.4</b></td>", "0.4"),
+    ("1111001101", "<td>−<b>0.4</b></td>", "−0.4"),
+    (MAIN, "\uE000", ""),
+    (MAIN, "\uF8FF", ""),
+    (MAIN, "−", ""),
+    (MAIN, "\uFFFD", ""),
+    (MAIN, "\u2000", "\u2000"),
+    (MAIN, "\uF93F", "\uF93F"),
+    (MAIN, "abc", "abc"),
+    (MAIN, linked(100, 20), "x" * 80 + "y" * 20),
+    (MAIN, linked(100, 21), ""),
+    (MAIN, linked(500, 101), ""),
+    (MAIN, linked(501, 501), "y" * 501),
+    (MAIN, '<p id="ad">t</p>', ""),
+    (MAIN, '<p id="ad x">t</p>', "t"),
+    (STANDING, "hi", "hi"),
+]
+
+# quirks of the Rust, and the false friends
+QUIRKS = [
+    (STANDING, "a<pre/>  b  c<p>d  e</p>", "a\n  b  c\nd  e"),
+    (STANDING, "<tr/><td>1</td><td>2</td>", "1\t\t2"),
+    (HTML, "<!a>a&b</a>", "a&amp;amp;b"),
+    ("2011101100", '<a href="u"><img alt="&lt;b&gt;&"/></a>', '<a href="u"><b>&</a>'),
+    (OFF, "<span><td>1</td></span>x", "1x"),
+    (OFF, "<tr><td/>x</tr>", "x"),
+    (OFF, '<tr><td>1</td><a href="u">t</a></tr>', "1"),
+    ("0011101100", '<tr><td>1</td><a href="u">t</a></tr>', "1t (u)"),
+    ("0011101100", "<a>t</a>", "t ()"),
+    # the level of a lone li stays up, that of a childless ul too
+    (STANDING, "<li>a</li>b", "  • a\n    • b"),
+    # blanks in front of a text are trimmed where out ends in a blank before its margin is written
+    (STANDING, "a<br/> b", "a\nb"),
+    (STANDING, "a<p/> b", "a\n\nb"),
+    (STANDING, "<div>a </div> b", "a\nb"),
+    # an li's end leaves a prefix, which the next text takes
+    (STANDING, "<ol><li>a</li>b<li>c</li></ol>", "  1. a\n    2. b\n  2. c"),
+    # a mark on the root takes all, one above it nothing
+    (STANDING, "<*!div>a</div>", ""),
+    (STANDING, "<*div>b<!p>a</p></div>", "a"),
+    (STANDING, "a<*p>b</p><!-- c -->d", "ad"),
+    # an img, area or input with children is written twice
+    (OFF, '<img alt="i">x</img>', "ixi"),
+    ("0011011100", '<input value=" v ">x</input>', "[ v ] x[ v ]"),
+    ("0011011100", '<input type="radio" value="v"/><input placeholder="p"/><textarea>t</textarea><button/>', "[ p ] [ t ] [ ".rstrip()),
+    # no blank between two cells where nothing stands yet
+    (OFF, "<tr><td/><td>x</td></tr>", "x"),
+    # the first attribute of a name counts
+    (OFF, '<img alt="i" alt="j"/>', "i"),
+    # names are compared byte for byte
+    (STANDING, "<UL><LI>a</LI></UL>", "a"),
+    # a three-byte text of two characters
+    (MAIN, "<p>aé</p><p>éa</p>", "éa"),
+    (MAIN, "<p> ¶ </p><p>¶¶</p>", "¶¶"),
+    # class and id are joined by a blank, also where there is no id: then "ad" is not at the end
+    (MAIN, '<p class="ad">t</p>', "t"),
+    # a footer that is followed skips all later tests
+    (MAIN, '<div><div><footer class="sidebar" hidden="">f</footer><p>p</p></div></div>', "f\n\np"),
+    (MAIN, "<div><div><footer>f</footer>t</div></div>", "t"),
+    (MAIN, "<div><div><footer>f</footer>t<!--c--></div></div>", "f\nt"),
+]
+
+
+def long_pages():
+    """Pages whose need of work or of out is 16,384 bytes, one less or one more; their rows show one range many times."""
+
+    def shown(names, total):
+        rows, at = [[0, ELEMENT, False, "body", "", []]], 0
+        while at < total:
+            part = min(200, total - at)
+            for depth, name in enumerate(names, 1):
+                rows.append([depth, ELEMENT, False, name, "", []])
+            rows.append([len(names) + 1, TEXT, False, "", "x" * part, []])
+            at += part
+        return sheet(rows)
+
+    for total in (16383, 16384, 16385, 20000):
+        # one entry
+        yield STANDING.encode() + b"\n" + shown([], total)
+        # entries of 200 bytes, and a blank or LF between two
+        separate = (total + 1) // 201
+        yield OFF.encode() + b"\n" + shown(["p"], total - separate)
+        yield STANDING.encode() + b"\n" + shown(["div"], total - separate)
+
+
+def worked(out):
+    for options, markup, _ in DOCUMENT + QUIRKS:
+        out.write(framed(options, written(markup)))
+
+
+def check(answers):
+    right = 0
+    for options, markup, text in DOCUMENT + QUIRKS:
+        number, _, _, length = (int(answers.read(8)) for _ in range(4))
+        answers.read(1)
+        if number == 33 and options[9] == "1":
+            continue
+        said = answers.read(length + 1)[:-1].decode() if number == 0 else number
+        if said != text:
+            sys.exit("%s %s: %r, and not %r" % (options, markup, said, text))
+        right += 1
+    assert not answers.read(1)
+    print("%d worked pages" % right)
+
+
+# ---- pages of the packages
+
+# html2text.rs: the selectors that the marks stand for, and those of candidates for the root
+ALWAYS = "script style iframe frame template noscript".split()
+NO_ALT_TEXTS = "object video audio embed img area svg figcaption figure".split()
+NO_FORM_FIELDS = "textarea input button select option label".split()
+CANDIDATES = "article-body articleBody contentBody article-text main-content postcontent post-content single-post".split()
+
+
+def candidates(rows):
+    """The rows that the selectors find, counted once for each selector."""
+    for i, row in enumerate(rows[1:], 1):
+        attrs = dict(reversed(row[5]))
+        for name in CANDIDATES:
+            if name in attrs.get("class", "").split():
+                yield i
+        if attrs.get("role") == "main":
+            yield i
+
+
+def rows_of(document):
+    rows, attributes = [], 0
+
+    def add(node, depth):
+        nonlocal attributes
+        if len(rows) >= MOST_ROWS or depth > MOST_DEPTH:
+            return
+        clean = lambda s: s.encode("utf-8", "replace").decode()
+        if node.nodeType == node.ELEMENT_NODE:
+            attrs = [(clean(n), clean(v)) for n, v in node.attributes.items()]
+            attrs = attrs if attributes + len(attrs) <= MOST_ATTRIBUTES else []
+            attributes += len(attrs)
+            rows.append([depth, ELEMENT, False, clean(node.localName or node.tagName), "", attrs])
+            for child in node.childNodes:
+                add(child, depth + 1)
+        elif node.nodeType in (node.TEXT_NODE, node.COMMENT_NODE):
+            rows.append([depth, node.nodeType, False, "", clean(node.data), []])
+
+    body = document.getElementsByTagName("body")
+    if body:
+        add(body[0], 0)
+    return rows
+
+
+def marked(rows, options):
+    names = ALWAYS + (NO_ALT_TEXTS if options[3] == "0" else []) + (NO_FORM_FIELDS if options[5] == "0" else [])
+    return [r[:2] + [i > 0 and r[3] in names] + r[3:] for i, r in enumerate(rows)]
+
+
+LINES = [STANDING, OFF, HTML, MAIN, "0111001100", "2111001100", "1011111100", "2011111100", "0011111100", "1100000000", "1111111110", "2110110000", "0001110000", "1110000010"]
+
+
+def real(count, out):
+    import html5lib
+
+    files = sorted(set(glob.glob("/usr/share/doc/**/*.html", recursive=True) + glob.glob("/usr/share/doc/**/*.html.en", recursive=True)
+                       + glob.glob("/usr/share/doc/**/*.html.gz", recursive=True) + glob.glob("/usr/share/debian-reference/*.html")
+                       + glob.glob("/usr/share/developers-reference/*.html")))
+    # spread over the folders, in one order everywhere
+    step = max(1, len(files) // count)
+    done = 0
+    for name in files[::step]:
+        if done >= count:
+            break
+        data = (gzip.open if name.endswith(".gz") else open)(name, "rb").read()
+        if len(data) > 400000:
+            continue
+        rows = rows_of(html5lib.parse(data, treebuilder="dom", namespaceHTMLElements=False))
+        if len(rows) < 5:
+            continue
+        roots = list(candidates(rows))
+        for k in range(5):
+            options = LINES[(done + 3 * k) % len(LINES)]
+            root = roots[0] if options[1] == "1" and len(roots) == 1 else 0
+            out.write(framed(options, sheet(marked(rows, options), root)))
+        done += 1
+        if done % 20 == 0:
+            print("%d pages" % done, file=sys.stderr)
+
+
+def main():
+    if sys.argv[1] == "worked":
+        worked(sys.stdout.buffer)
+    elif sys.argv[1] == "long":
+        for case in long_pages():
+            sys.stdout.buffer.write(b"%8d\n" % len(case) + case)
+    elif sys.argv[1] == "check":
+        check(sys.stdin.buffer)
+    else:
+        real(int(sys.argv[2]), sys.stdout.buffer)
+
+
+if __name__ == "__main__":
+    main()

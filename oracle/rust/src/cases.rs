@@ -1,0 +1,84 @@
+//! Cases and answers as bytes. A case is its length in 8 columns, LF, and so many bytes: an option line and a sheet, as document
+//! 01's program reads them. An answer is what that program prints.
+
+use crate::extract::html2text::{ExtractOptions, Formatting, extract_plain_text};
+use crate::parse::html::tree::HtmlTree;
+use crate::sheet::{self, Page, Refusal};
+use std::rc::Rc;
+
+pub fn framed(case: &[u8]) -> Vec<u8> {
+    let mut bytes = format!("{:8}\n", case.len()).into_bytes();
+    bytes.extend(case);
+    bytes
+}
+
+pub fn unframed(bytes: &[u8]) -> Vec<&[u8]> {
+    let (mut cases, mut rest) = (vec![], bytes);
+    while !rest.is_empty() {
+        let n: usize = std::str::from_utf8(&rest[..8]).unwrap().trim_start().parse().unwrap();
+        cases.push(&rest[9..9 + n]);
+        rest = &rest[9 + n..];
+    }
+    cases
+}
+
+/// The options of ten digits and LF. Only icons 0 is the Rust's.
+pub fn options(line: &[u8]) -> Option<ExtractOptions> {
+    let [f, flags @ .., b'0', b'\n'] = line else {
+        return None;
+    };
+    if line.len() != 11 || flags.iter().any(|b| !matches!(b, b'0' | b'1')) {
+        return None;
+    }
+    let on = |k: usize| flags[k] == b'1';
+    Some(ExtractOptions {
+        formatting: [Formatting::Off, Formatting::Basic, Formatting::MinimalHtml].get(f.checked_sub(b'0')? as usize).copied()?,
+        main_content: on(0),
+        list_bullets: on(1),
+        alt_texts: on(2),
+        links: on(3),
+        form_fields: on(4),
+        noscript: false,
+        comments: on(5),
+        post_meta: on(6),
+        hidden_elements: on(7),
+        skip_elements: vec![],
+    })
+}
+
+pub struct Answer {
+    pub numbers: [usize; 4],
+    pub text: String,
+}
+
+impl Answer {
+    pub fn refused((number, second): Refusal) -> Answer {
+        Answer { numbers: [number, second, 0, 0], text: String::new() }
+    }
+    pub fn bytes(&self) -> Vec<u8> {
+        let [a, b, c, d] = self.numbers;
+        let mut bytes = format!("{:8}{:8}{:8}{:8}\n", a, b, c, d).into_bytes();
+        if a == 0 {
+            bytes.extend(self.text.as_bytes());
+            bytes.push(b'\n');
+        }
+        bytes
+    }
+}
+
+/// What the Rust says of a page.
+pub fn extracted(page: &Rc<Page>, opts: &ExtractOptions) -> Answer {
+    page.passes.set(0);
+    let text = extract_plain_text(&HtmlTree(page.clone()), opts).unwrap();
+    Answer { numbers: [0, 0, page.passes.get(), text.len()], text }
+}
+
+pub fn answer(case: &[u8]) -> Answer {
+    let Some(opts) = case.get(..11).and_then(options) else {
+        return Answer::refused((33, 0));
+    };
+    match sheet::read(&case[11..]) {
+        Ok(page) => extracted(&page.shared(), &opts),
+        Err(refusal) => Answer::refused(refusal),
+    }
+}

@@ -1,0 +1,130 @@
+#!/usr/bin/env python3
+"""Wrong readings of the Rust, each an edit of oracle/reference.py: does the sample of oracle/pages_replay tell it from the right one?
+Use: wrong_readings.py [NAME]
+Ends with 1 if one of them is not told apart. The last list has edits that no sheet can tell apart."""
+import os
+import subprocess
+import sys
+
+HERE = os.path.dirname(os.path.abspath(__file__))
+SAMPLE = os.path.join(HERE, "..", "crates", "pages_replay")
+REFERENCE = os.path.join(HERE, "reference.py")
+
+WRONG = [
+    # document 01, "False friends"
+    ("three bytes as private use", "return 0x8080EE <= a + 256 * b + 65536 * c <= 0xBFA3EF", "return 0xEE8080 <= 65536 * a + 256 * b + c <= 0xEFA3BF"),
+    ("a lone li closes its level", "return is_list(t) or (is_li(t) and depth == 0)", "return is_list(t) or is_li(t)"),
+    ("a childless ul closes its level", "        else:\n            S.depth, S.numbering = S.depth + 1", "        elif n.has_children or not is_list(n.tag):\n            S.depth, S.numbering = S.depth + 1"),
+    ("leading blanks, asked after the margin", "    t = shortened(collapses(off, n), block or ends_blank(S.text), text)\n    if t != b\"\":\n        margin(collapses(off, n), off, S)\n", "    t = shortened(collapses(off, n), block or ends_blank(S.text), text)\n    if t != b\"\":\n        margin(collapses(off, n), off, S)\n        t = shortened(collapses(off, n), ends_blank(S.text), t)\n"),
+    ("an li's end clears the prefix", "        S.bullet = not n.end\n", "        S.bullet = not n.end\n        S.prefix = b\"\" if n.end else S.prefix\n"),
+    # bytes
+    ("U+000B is no blank", "return is_ascii_whitespace(c) or c == 0x0B", "return is_ascii_whitespace(c)"),
+    ("quotes are not escaped", "0x22: b\"&quot;\", ", ""),
+    # icons
+    ("the range's last", "0xBFA3EF", "0xBFA3EE"),
+    ("the range's first", "return 0x8080EE <=", "return 0x8080EE <"),
+    ("private use's last", "0xEFA3BF", "0xEFA3BE"),
+    ("private use's first", "return 0xEE8080 <=", "return 0xEE8080 <"),
+    ("an icon is not trimmed", "is_icon(o.icons, trim(n.value))", "is_icon(o.icons, n.value)"),
+    ("a pilcrow is no icon", "if text == b\"\\xc2\\xb6\":", "if False:"),
+    # collect
+    ("an entry at the same depth", "depth < last) or", "depth <= last) or"),
+    ("a textarea is no pre", "    if is_pre(t) or is_textarea(t):", "    if is_pre(t):"),
+    ("h5 is big", "(8 <= t and t <= 11) or t == 14", "(8 <= t and t <= 12) or t == 14"),
+    ("th is no cell", "b\"td\" if is_(name, \"th\") else name", "name"),
+    ("no escape in collect", "escape(n.value) if o.formatting == MINIMAL_HTML and is_a(current) else n.value", "n.value"),
+    ("an end without children", "            if children != []:\n                to.append", "            if True:\n                to.append"),
+    ("href is not trimmed", "return b\" (\" + trim(href)", "return b\" (\" + href"),
+    ("an input's type is not trimmed", "is_input(t) and not is_unshown_type(trim(attr(n, \"type\")))", "is_input(t) and not is_unshown_type(attr(n, \"type\"))"),
+    ("a blank value keeps the placeholder out", "return attr(n, \"placeholder\") if trim(attr(n, \"value\")) == b\"\"", "return attr(n, \"placeholder\") if attr(n, \"value\") == b\"\""),
+    ("the last attribute of a name", "    for a, value in attributes:\n", "    for a, value in reversed(attributes):\n"),
+    # serialize
+    ("a list's tag is indented as its items", "max(0, depth - int(opening_list)) * 2", "depth * 2"),
+    ("LF behind a list's tag in pre", "opening_list and n.pre_depth == 0 else", "opening_list else"),
+    ("an li's end strips in pre", "            if n.pre_depth == 0:\n                S.strip()\n", "            S.strip()\n"),
+    ("blocks in pre", "and not (bullets and is_li(n.tag) and not n.end) and n.pre_depth == 0", "and not (bullets and is_li(n.tag) and not n.end)"),
+    ("big blocks in pre", "2 if n.big_block and n.pre_depth == 0 else 1", "2 if n.big_block else 1"),
+    ("two br are one", "            S.margins += 2 if n.big_block else 1", "            S.margins = max(S.margins, 1)"),
+    ("a blank behind a blank between cells", "if not (len(S.text) == 0 or ends_blank(S.text)):", "if not len(S.text) == 0:"),
+    ("a blank before the first cell", "if not (len(S.text) == 0 or ends_blank(S.text)):", "if not ends_blank(S.text):"),
+    ("no indent for want of a bullet", "(S.depth + int(bullets and not S.bullet)) * 2", "S.depth * 2"),
+    ("the bullet stays", "* 2))\n        S.bullet = False\n", "* 2))\n"),
+    ("numbers rise at an li's end", "            if not n.end:\n                S.numbering = S.numbering[:-1] + [number + 1]", "            S.numbering = S.numbering[:-1] + [number + 1]"),
+    ("rows stay open", "S.row_has_cell[:max(0, len(S.row_has_cell) - 1)]", "S.row_has_cell"),
+    ("a margin strips in pre", "        if bare:\n            S.strip()", "        S.strip()"),
+    ("Off keeps pre", "return n.pre_depth == 0 or off", "return n.pre_depth == 0"),
+    ("a cell's end is not dropped", "    if is_cell(n.tag) and n.end:\n        return\n", ""),
+    ("the last strip is left out", "    text = rstrip(S.text)\n    return [0", "    text = S.text\n    return [0"),
+    # the walk
+    ("the root's mark", "self.p.marked[i] or filtered", "(i != self.p.root and self.p.marked[i]) or filtered"),
+    ("the root is not filtered", "self.p.marked[i] or filtered(self.p, self.o, i)", "self.p.marked[i] or (i != self.p.root and filtered(self.p, self.o, i))"),
+    ("depth counts from row 0", "p.depths[i] - p.depths[body_above(p, p.root)]", "p.depths[i]"),
+    ("visits of a left-out row", "return sum(1 if self.left_out(i) else", "return sum(0 if self.left_out(i) else"),
+    # is_main_content
+    ("footer at depth 3", "return False if depth < 3 or cluster", "return False if depth < 4 or cluster"),
+    ("a footer's tests go on", "else followed(p, i)\n", "else followed(p, i) and by_attributes(o, cluster, depth, name, attributes)\n"),
+    ("what follows a footer", "p.node[next_].kind != TEXT or p.next_sibling(next_) is not None", "p.node[next_].kind != TEXT"),
+    ("a body above a footer", "        if is_body(p.node[parent]):\n            return False\n", "        if parent == 0:\n            return False\n"),
+    ("ul at depth 3", "(depth < 4 or cluster", "(depth < 3 or cluster"),
+    ("article at depth 3", "is_(name, \"article\") and 2 < depth", "is_(name, \"article\") and 3 < depth"),
+    ("div at depth 5", "depth <= 5", "depth <= 4"),
+    ("div at depth 3", "not (2 < depth and is_(name, \"div\")", "not (3 < depth and is_(name, \"div\")"),
+    ("sign-in at depth 2", "return 2 < depth and (finds", "return 1 < depth and (finds"),
+    ("limit 500", "(1 / 5, 500)", "(1 / 5, 499)"),
+    ("limit 800", "(3 / 5, 800)", "(3 / 5, 801)"),
+    ("limit 1500", "(3 / 5, 1500)", "(3 / 5, 1501)"),
+    ("a share equal to the ratio", "yes = ratio < links / total\n    assert yes == (EXACT[ratio] < Fraction(links, total))", "yes = ratio <= links / total"),
+    ("nested links once", "return sum(text_bytes(p, j) for j in p.below(i) if is_link_node(p.node[j]))", "return sum(text_bytes(p, j) for j in p.below(i) if is_link_node(p.node[j]) and not is_link_node(p.node[p.parent[j]]))"),
+    ("comments are text", "for j in self.below(i) if self.node[j].kind == TEXT)", "for j in self.below(i) if self.node[j].kind != ELEMENT)"),
+    ("text is not collapsed", "return len(collapse(p.text_content(i)))", "return len(p.text_content(i))"),
+    ("class and id joined only where both are", "return id_ if class_ == b\"\" else class_ + b\" \" + id_", "return (class_ + b\" \" + id_).strip(b\" \")"),
+    ("hidden_elements", "(not hidden_elements and finds", "(finds"),
+    ("post_meta", "(not post_meta and finds", "(finds"),
+    ("comments", "return not comments and finds", "return finds"),
+    ("td is no block", "not is_block(name) and not is_(name, \"td\")", "not is_block(name)"),
+    ("th is a block", "not is_block(name) and not is_(name, \"td\")", "not is_block(name) and not one_of(name, words(\"td th\"))"),
+    ("junk in an id", "finds(\"otherJunkCls\", class_)", "finds(\"otherJunkCls\", combined)"),
+    ("a landmark's class", "finds(\"landmarkId\", id_)", "finds(\"landmarkId\", combined)"),
+    ("role main", "attr_among(attributes, \"rel\", \"main\")", "attr_among(attributes, \"role\", \"main\")"),
+    ("attributes are not trimmed", "return one_of(trim(attr_of(attributes, name)), words(values))", "return one_of(attr_of(attributes, name), words(values))"),
+    ("an empty hidden", "return attribute(attributes, name.encode()) is not None", "return attribute(attributes, name.encode()) not in (None, b\"\")"),
+]
+
+# these change nothing that a sheet can show
+SAME = [
+    ("uncollapsed", "0 < uncollapsed and n.collapse_margins", "False"),
+    ("pre_depth below 0", "max(0, before - 1) if end", "before - 1 if end"),
+    ("a link stays a block", "block=n.block and not is_link(o, t),\n", "block=n.block,\n"),
+    ("a row is a link of itself", "for j in p.below(i) if is_link_node(p.node[j]))", "for j in [i] + list(p.below(i)) if is_link_node(p.node[j]))"),
+    ("margins at a pre's end", "            S.push_all(b\"<pre>\")\n        S.margins = 0\n", "            S.push_all(b\"<pre>\")\n"),
+]
+
+
+def said(old, new):
+    source = open(REFERENCE).read()
+    if source.count(old) != 1:
+        sys.exit("found %d times: %r" % (source.count(old), old))
+    code = "import sys\nexec(compile(sys.argv.pop(1), %r, 'exec'), {'__name__': '__main__', '__file__': %r})" % (REFERENCE, REFERENCE)
+    command = [sys.executable, "-c", code, source.replace(old, new), "--out", "16384", "--work", "16384"]
+    with open(os.path.join(SAMPLE, "stdin"), "rb") as cases:
+        return subprocess.run(command, stdin=cases, stdout=subprocess.PIPE, stderr=subprocess.DEVNULL)
+
+
+def main():
+    right = open(os.path.join(SAMPLE, "stdout"), "rb").read()
+    missed = 0
+    for told, edits in ((True, WRONG), (False, SAME)):
+        for name, old, new in edits:
+            if sys.argv[1:] and name not in sys.argv[1:]:
+                continue
+            run = said(old, new)
+            if (run.returncode != 0 or run.stdout != right) != told:
+                print("%s: %s" % (name, "not told apart" if told else "told apart"))
+                sys.stdout.flush()
+                missed += 1
+    print("%d wrong readings, %d not as said" % (len(WRONG), missed))
+    sys.exit(missed > 0)
+
+
+if __name__ == "__main__":
+    main()
