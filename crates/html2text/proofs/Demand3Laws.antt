@@ -3,11 +3,11 @@ use mathlib.Core.Path.{_≡_, refl, sym, ap, _∙_}
 use mathlib.Core.Bool.{Bool, true, false, cond}
 use mathlib.Core.List.{List}
 use Prim.Native.Nat.{ℕ, _-_}
-use native.Mathlib.Omega.{arith}
 use lib.Dec.{ltb, lit≤}
 use lib.ListN.{length, take, replicate}
 use lib.Seq.{take-append-seam}
 use Rattle.common.specs.Bytes.{Bytes, padded}
+use Rattle.common.proofs.Choice.{absurd-test}
 use Rattle.options.specs.declared.ExtractOptions.{ExtractOptions}
 use Rattle.sheet.specs.Verdict.{verdictOf}
 use Rattle.sheet.specs.declared.line.Layout.{Layout}
@@ -21,12 +21,20 @@ use Rattle.html2text.specs.Demand3.{Gives, Demand3}
 use Rattle.html2text.specs.Extract.{Run, going, tooManyLevels, tooManyRows, serialized, finished, concluded, outThen, entries, passes, workNeed, extraction, outAfter, filteredBy, extractionOf, outAfterOf}
 use Rattle.html2text.specs.Serialize.{State}
 use Rattle.html2text.specs.declared.Extraction.{Extraction}
-use Rattle.html2text.specs.declared.Extraction.the-variants.{Text, Refused, WorkTooShort, OutTooShort}
+use Rattle.html2text.specs.declared.Extraction.the-variants.{Text, Refused, ListLevels, OpenRows, WorkTooShort, OutTooShort}
 use Rattle.html2text.proofs.AlikeSheets.{further-marks}
 use Rattle.html2text.proofs.DemandLaws.{TextOf, blanks-right, texts-are-pieces}
 use Rattle.html2text.proofs.PageLaws.{page-right}
 
 -- ---- an answer that is a text
+
+abbrev isText : Extraction → Bool
+isText (Text visits len) = true
+isText (Refused v) = false
+isText (ListLevels line) = false
+isText (OpenRows line) = false
+isText (WorkTooShort need) = false
+isText (OutTooShort need) = false
 
 -- the run has gone to its end, and its text is what is written
 record Concluded (r : Run) (t : Bytes) : Type 0 where
@@ -36,14 +44,14 @@ record Concluded (r : Run) (t : Bytes) : Type 0 where
 
 concluded-text : (need visits : ℕ) (r : Run) (out work t : Bytes) (v : ℕ) → concluded need visits r (length out) (length work) ≡ Text v (length t)
     → take (length t) (outThen need visits r out work) ≡ t → Concluded r t
-concluded-text need visits (tooManyLevels line) out work t v e f = absurd (let z : _≡_ {A = ℕ} 0 1 = cc in omega arith)
-concluded-text need visits (tooManyRows line) out work t v e f = absurd (let z : _≡_ {A = ℕ} 0 1 = cc in omega arith)
+concluded-text need visits (tooManyLevels line) out work t v e f = absurd-test (ap isText e) refl
+concluded-text need visits (tooManyRows line) out work t v e f = absurd-test (ap isText e) refl
 concluded-text need visits (going S) out work t v e f = go (ltb (length work) need) (ltb (length out) (S .out .peak)) e f
   where
     go : (a b : Bool) → cond a (WorkTooShort need) (cond b (OutTooShort (S .out .peak)) (Text visits (length (finished S)))) ≡ Text v (length t)
         → take (length t) (cond a out (cond b out (padded (finished S) (length out)))) ≡ t → Concluded (going S) t
-    go true b p q = absurd (let z : _≡_ {A = ℕ} 0 1 = cc in omega arith)
-    go false true p q = absurd (let z : _≡_ {A = ℕ} 0 1 = cc in omega arith)
+    go true b p q = absurd-test (ap isText p) refl
+    go false true p q = absurd-test (ap isText p) refl
     go false false p q =
         let n : length t ≡ length (finished S) = cc in
         record { state = S; run = refl; text = sym q ∙ ap (λ (k : ℕ). take k (padded (finished S) (length out))) n ∙ take-append-seam (finished S) (replicate (length out - length (finished S)) 0) }
@@ -56,13 +64,13 @@ record SheetOf (v : Verdict) : Type 0 where
 
 sheet-of : (ask : Layout → Extraction) (v : Verdict) (visits len : ℕ) → onSheet ask Refused v ≡ Text visits len → SheetOf v
 sheet-of ask (Sheet l) visits len e = record { layout = l; is-sheet = refl }
-sheet-of ask (Length n) visits len e = absurd (let z : _≡_ {A = ℕ} 0 1 = cc in omega arith)
-sheet-of ask (Format line) visits len e = absurd (let z : _≡_ {A = ℕ} 0 1 = cc in omega arith)
-sheet-of ask Counts visits len e = absurd (let z : _≡_ {A = ℕ} 0 1 = cc in omega arith)
-sheet-of ask (Kind line) visits len e = absurd (let z : _≡_ {A = ℕ} 0 1 = cc in omega arith)
-sheet-of ask (Tree line) visits len e = absurd (let z : _≡_ {A = ℕ} 0 1 = cc in omega arith)
-sheet-of ask (Range line) visits len e = absurd (let z : _≡_ {A = ℕ} 0 1 = cc in omega arith)
-sheet-of ask (Encoding line) visits len e = absurd (let z : _≡_ {A = ℕ} 0 1 = cc in omega arith)
+sheet-of ask (Length n) visits len e = absurd-test (ap isText e) refl
+sheet-of ask (Format line) visits len e = absurd-test (ap isText e) refl
+sheet-of ask Counts visits len e = absurd-test (ap isText e) refl
+sheet-of ask (Kind line) visits len e = absurd-test (ap isText e) refl
+sheet-of ask (Tree line) visits len e = absurd-test (ap isText e) refl
+sheet-of ask (Range line) visits len e = absurd-test (ap isText e) refl
+sheet-of ask (Encoding line) visits len e = absurd-test (ap isText e) refl
 
 module _ (filters : (ℕ → Node) → List ℕ → ℕ → ExtractOptions → ℕ → Bool) where
   gives-text : {s : Bytes} {o : ExtractOptions} {out work t : Bytes} (l : Layout) → verdictOf 8 s ≡ Sheet l → Gives filters s o out work t → TextOf (filteredBy filters) (pageOf s l) o t
