@@ -1,6 +1,5 @@
 // `collect` of html2text.rs, with one entry open: what a visit to a row adds to its text, and the entry that the visit opens.
 pub mod added;
-pub mod entry;
 pub mod tests;
 
 // A row at its beginning or at its end: its number, the number of its tag, its first attribute line and where its value lies; whether it
