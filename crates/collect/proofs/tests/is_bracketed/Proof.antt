@@ -1,0 +1,13 @@
+-- `tests::is_bracketed` meets its contract.
+use borrow.Author.Tests.{eq-eqb, ne-eqb}
+use Rattle.collect.proofs.tests.is_bracketed.Statement.{statement}
+use Rattle.collect.proofs.tests.is_bracketed.Tie as tie
+
+returns : tie.Need-returns
+returns c = rw (eq-eqb _ _ (c .if1 .taken))
+
+returns-2 : tie.Need-returns-2
+returns-2 c = rw (ne-eqb _ _ (c .if1 .left))
+
+pub is-bracketed-spec : {M : Type 1} → statement M
+is-bracketed-spec = tie.close (tie.spec returns returns-2)

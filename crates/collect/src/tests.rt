@@ -1,0 +1,130 @@
+// The tests of `collect`, on options and on the number of a tag (crates/tags).
+use options::ExtractOptions;
+use options::Formatting;
+ghost use mathlib.Core.Bool.{_&&_, _||_};
+ghost use mathlib.Core.Path.{_≡_};
+ghost use Rattle.html2text.specs.Collect.{isBreak, isLink, pushesAfter};
+ghost use Rattle.options.specs.Options.{isBasic, isMinimalHtml};
+ghost use Rattle.tags.specs.Tags.{isBigBlock, isBlockTag, isButton, isCell, isImage, isPre, isTextarea};
+
+const TR: u8 = 1;
+
+const CELL: u8 = 2;
+
+const UL: u8 = 3;
+
+const PRE: u8 = 6;
+
+const BR: u8 = 7;
+
+const H1: u8 = 8;
+
+const H4: u8 = 11;
+
+const P: u8 = 14;
+
+const TABLE: u8 = 36;
+
+const A: u8 = 37;
+
+const TEXTAREA: u8 = 38;
+
+const IMG: u8 = 39;
+
+const AREA: u8 = 40;
+
+const BUTTON: u8 = 41;
+
+pub fn is_minimal_html(f: Formatting) -> bool
+    ensures { λ r. ⌜ r ≡ isMinimalHtml f ⌝ }
+{
+    match f {
+        Formatting::Off => false,
+        Formatting::Basic => false,
+        Formatting::MinimalHtml => true,
+    }
+}
+
+fn is_basic(f: Formatting) -> bool
+    ensures { λ r. ⌜ r ≡ isBasic f ⌝ }
+{
+    match f {
+        Formatting::Off => false,
+        Formatting::Basic => true,
+        Formatting::MinimalHtml => false,
+    }
+}
+
+// The names of blocks are TR and UL to TABLE.
+pub fn is_block(tag: u8) -> bool
+    ensures { λ r. ⌜ r ≡ isBlockTag tag ⌝ }
+{
+    tag == TR || (UL <= tag && tag <= TABLE)
+}
+
+pub fn is_big_block(tag: u8) -> bool
+    ensures { λ r. ⌜ r ≡ isBigBlock tag ⌝ }
+{
+    if H1 <= tag {
+        if tag <= H4 {
+            return true;
+        }
+        return tag == P;
+    }
+    tag == P
+}
+
+pub fn is_pre(tag: u8) -> bool
+    ensures { λ r. ⌜ r ≡ (isPre tag || isTextarea tag) ⌝ }
+{
+    tag == PRE || tag == TEXTAREA
+}
+
+pub fn is_image(tag: u8) -> bool
+    ensures { λ r. ⌜ r ≡ isImage tag ⌝ }
+{
+    tag == IMG || tag == AREA
+}
+
+pub fn is_bracketed(tag: u8) -> bool
+    ensures { λ r. ⌜ r ≡ (isTextarea tag || isButton tag) ⌝ }
+{
+    tag == TEXTAREA || tag == BUTTON
+}
+
+// `name == "br" && opts.formatting == Formatting::Basic`
+pub fn is_break(o: ExtractOptions, tag: u8) -> bool
+    ensures { λ r. ⌜ r ≡ isBreak o tag ⌝ }
+{
+    let f = o.formatting;
+    is_basic(f) && tag == BR
+}
+
+// `opts.links && name == "a"`
+pub fn is_link(o: ExtractOptions, tag: u8) -> bool
+    ensures { λ r. ⌜ r ≡ isLink o tag ⌝ }
+{
+    o.links && tag == A
+}
+
+fn is_textarea_or_cell(tag: u8) -> bool
+    ensures { λ r. ⌜ r ≡ (isTextarea tag || isCell tag) ⌝ }
+{
+    tag == TEXTAREA || tag == CELL
+}
+
+// Whether a visit at depth opens an entry, where one is open already, of a row at depth last.
+pub fn pushes_after(o: ExtractOptions, last: usize, tag: u8, depth: usize) -> bool
+    ensures { λ r. ⌜ r ≡ pushesAfter o last tag depth ⌝ }
+{
+    if is_block(tag) {
+        return true;
+    }
+    if depth < last {
+        return true;
+    }
+    if is_link(o, tag) {
+        return true;
+    }
+    is_textarea_or_cell(tag)
+}
