@@ -1,0 +1,121 @@
+// The entry points for other languages: each answer in document 01's numbers. A slice is a pointer and a length.
+use common::Answer;
+use numbers::of_attribute;
+use numbers::of_length;
+use numbers::of_matched;
+use numbers::of_relative;
+use numbers::of_verdict;
+use numbers::of_written;
+use patterns::matches;
+use sheet::verdict::check;
+use text::collapse;
+use text::escape;
+use tree::attributes::AttributeAnswer;
+use tree::attributes::attribute_of;
+use tree::content::text_length_of;
+use tree::questions::first_child_of;
+use tree::questions::next_sibling_of;
+use tree::questions::parent_of;
+ghost use mathlib.Core.Path.{_≡_};
+ghost use lib.ListN.{length};
+ghost use Rattle.common.specs.Answer.{outAfter, writtenIn};
+ghost use Rattle.patterns.specs.Answers.{answerOf};
+ghost use Rattle.sheet.specs.Column.{parentOf};
+ghost use Rattle.sheet.specs.Verdict.{numbers, verdictOf};
+ghost use Rattle.text.specs.Text as texts;
+ghost use Rattle.tree.specs.Attributes.{attributeOf};
+ghost use Rattle.tree.specs.Questions.{relativeNumbers};
+ghost use Rattle.tree.specs.Rows.{firstChildOf, nextSiblingOf};
+ghost use Rattle.tree.specs.TextLength.{lengthNumbers};
+ghost use Rattle.levzhada.specs.Answers.{rangeOf};
+
+// An attribute's range in the pool: present is 1 where there is one, and its length is the answer's.
+#[repr(C)]
+pub struct Range {
+    pub answer: Answer,
+    pub present: usize,
+    pub at: usize,
+}
+
+#[no_mangle]
+pub extern "C" fn levzhada_check(sheet: &[u8]) -> Answer
+    ensures { λ r. ⌜ r ≡ numbers (verdictOf 8 (now (sheet .entry))) ⌝ }
+{
+    of_verdict(check(sheet))
+}
+
+#[no_mangle]
+pub extern "C" fn levzhada_parent(sheet: &[u8], row: usize) -> Answer
+    ensures { λ r. ⌜ r ≡ relativeNumbers parentOf (now (sheet .entry)) row ⌝ }
+{
+    of_relative(parent_of(sheet, row))
+}
+
+#[no_mangle]
+pub extern "C" fn levzhada_first_child(sheet: &[u8], row: usize) -> Answer
+    ensures { λ r. ⌜ r ≡ relativeNumbers firstChildOf (now (sheet .entry)) row ⌝ }
+{
+    of_relative(first_child_of(sheet, row))
+}
+
+#[no_mangle]
+pub extern "C" fn levzhada_next_sibling(sheet: &[u8], row: usize) -> Answer
+    ensures { λ r. ⌜ r ≡ relativeNumbers nextSiblingOf (now (sheet .entry)) row ⌝ }
+{
+    of_relative(next_sibling_of(sheet, row))
+}
+
+fn range_of(a: AttributeAnswer) -> Range
+    ensures { λ r. ⌜ r ≡ rangeOf a ⌝ }
+{
+    let answer = of_attribute(a);
+    let AttributeAnswer::At { at, len: _ } = a else {
+        return Range {
+            answer,
+            present: 0,
+            at: 0,
+        };
+    };
+    Range {
+        answer,
+        present: 1,
+        at,
+    }
+}
+
+#[no_mangle]
+pub extern "C" fn levzhada_attribute(sheet: &[u8], row: usize, name: &[u8]) -> Range
+    ensures { λ r. ⌜ r ≡ rangeOf (attributeOf (now (sheet .entry)) row (now (name .entry))) ⌝ }
+{
+    range_of(attribute_of(sheet, row, name))
+}
+
+#[no_mangle]
+pub extern "C" fn levzhada_text_length(sheet: &[u8], row: usize) -> Answer
+    ensures { λ r. ⌜ r ≡ lengthNumbers (now (sheet .entry)) row ⌝ }
+{
+    of_length(text_length_of(sheet, row))
+}
+
+#[no_mangle]
+pub extern "C" fn levzhada_matches(pattern: usize, text: &[u8]) -> Answer
+    ensures { λ r. ⌜ r ≡ answerOf pattern (now (text .entry)) ⌝ }
+{
+    of_matched(matches(pattern, text))
+}
+
+#[no_mangle]
+pub extern "C" fn levzhada_collapse(text: &[u8], out: &mut [u8]) -> Answer
+    ensures answer { λ r. ⌜ r ≡ writtenIn (texts.collapse (now (text .entry))) (length (now (out .entry))) ⌝ }
+    ensures buffer { λ r. ⌜ now (out .exit) ≡ outAfter (texts.collapse (now (text .entry))) (now (out .entry)) ⌝ }
+{
+    of_written(collapse(text, out))
+}
+
+#[no_mangle]
+pub extern "C" fn levzhada_escape(text: &[u8], out: &mut [u8]) -> Answer
+    ensures answer { λ r. ⌜ r ≡ writtenIn (texts.escape (now (text .entry))) (length (now (out .entry))) ⌝ }
+    ensures buffer { λ r. ⌜ now (out .exit) ≡ outAfter (texts.escape (now (text .entry))) (now (out .entry)) ⌝ }
+{
+    of_written(escape(text, out))
+}

@@ -1,0 +1,71 @@
+/* Levzhada: reads a web page's tree sheet.
+ *
+ * Each function answers in the numbers of document 01, "The tree sheet and the text drawn from it", and comes back for every
+ * input: nothing is demanded of the bytes. What holds for every call, as in C:
+ * - a pointer is not NULL, also where its length is 0, and so many bytes may be read there (written, where it is not const);
+ * - what a call writes overlaps nothing else that the call is given;
+ * - nothing else changes the bytes while the call runs.
+ *
+ * Link with liblevzhada.a, which `rt staticlib levzhada` writes to target/staticlib/.
+ */
+#ifndef LEVZHADA_H
+#define LEVZHADA_H
+
+#include <stddef.h>
+#include <stdint.h>
+
+#ifdef __cplusplus
+extern "C" {
+#endif
+
+/* An answer. A refusal has visits 0 and length 0. */
+typedef struct {
+    size_t number; /* 0: accepted; otherwise the refusal, 11 to 36 */
+    size_t second; /* what goes with the number: a line, a row, a need, .. */
+    size_t visits; /* of a text: the passes of the walk */
+    size_t length; /* of a text: its bytes */
+} levzhada_answer;
+
+/* An attribute's range. */
+typedef struct {
+    levzhada_answer answer; /* its length: the bytes of the value */
+    size_t present;         /* 1: the row has the attribute, perhaps empty; 0: not */
+    size_t at;              /* where the value starts in the pool; 0 where there is none */
+} levzhada_range;
+
+/* What is wrong with a sheet: number 0 where nothing is, otherwise 11 to 17 with the line or the length at fault. */
+levzhada_answer levzhada_check(const uint8_t *sheet, size_t sheet_length);
+
+/* The single-row questions below come after the sheet's refusals; 35 with the row where the sheet has no such row. */
+
+/* The parent of a row: second is the parent's row and length 1, or length 0 where there is none. */
+levzhada_answer levzhada_parent(const uint8_t *sheet, size_t sheet_length, size_t row);
+
+/* The first child of a row: as for the parent. */
+levzhada_answer levzhada_first_child(const uint8_t *sheet, size_t sheet_length, size_t row);
+
+/* The next sibling of a row: as for the parent. */
+levzhada_answer levzhada_next_sibling(const uint8_t *sheet, size_t sheet_length, size_t row);
+
+/* The first attribute of a row that has the name, byte for byte: where its value lies in the pool. */
+levzhada_range levzhada_attribute(const uint8_t *sheet, size_t sheet_length, size_t row, const uint8_t *name, size_t name_length);
+
+/* The length of a row's text content, runs of blanks collapsed. */
+levzhada_answer levzhada_text_length(const uint8_t *sheet, size_t sheet_length, size_t row);
+
+/* Whether a text matches one of the 21 patterns, 0 to 20: second is 1 for yes and 0 for no. 36 with the number of a pattern
+ * that is not there. */
+levzhada_answer levzhada_matches(size_t pattern, const uint8_t *text, size_t text_length);
+
+/* Each run of blanks as one space: out holds length bytes of text and zeros behind them. 32 with the need, and out unchanged,
+ * where out is too short. */
+levzhada_answer levzhada_collapse(const uint8_t *text, size_t text_length, uint8_t *out, size_t out_length);
+
+/* & < > and " as entities: out as for collapse. */
+levzhada_answer levzhada_escape(const uint8_t *text, size_t text_length, uint8_t *out, size_t out_length);
+
+#ifdef __cplusplus
+}
+#endif
+
+#endif

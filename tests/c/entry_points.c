@@ -1,0 +1,126 @@
+/* The entry points for other languages, called from C: the answers on a small page. */
+#include "levzhada.h"
+
+#include <stdio.h>
+#include <string.h>
+
+static int checks, failures;
+
+static void check(const char *what, size_t got, size_t wanted) {
+    checks++;
+    if (got != wanted) {
+        failures++;
+        printf("%s: %zu, and not %zu\n", what, got, wanted);
+    }
+}
+
+static void check_answer(const char *what, levzhada_answer a, size_t number, size_t second, size_t visits, size_t length) {
+    checks++;
+    if (a.number != number || a.second != second || a.visits != visits || a.length != length) {
+        failures++;
+        printf("%s: %zu %zu %zu %zu, and not %zu %zu %zu %zu\n", what, a.number, a.second, a.visits, a.length, number, second,
+               visits, length);
+    }
+}
+
+static void check_bytes(const char *what, const uint8_t *got, const char *wanted, size_t length) {
+    checks++;
+    if (memcmp(got, wanted, length) != 0) {
+        failures++;
+        printf("%s: other bytes\n", what);
+    }
+}
+
+static const uint8_t *bytes(const char *s) { return (const uint8_t *)s; }
+
+/* <body class="c d"><p id="">a  b </p><!--x--><p>&amp;</p></body> */
+static const char page[] =
+    "       6       2      27       0\n"
+    "       0       1       0       0       4       0       0       1\n"
+    "       1       1       0       4       1       0       0       1\n"
+    "       2       3       0       0       0       5       5       0\n"
+    "       1       8       0       0       0      10       1       0\n"
+    "       1       1       0       4       1       0       0       0\n"
+    "       2       3       0       0       0      11       1       0\n"
+    "      12       5      17       3\n"
+    "      20       2      22       0\n"
+    "bodypa  b x&classc didno !!";
+
+static const uint8_t *sheet = (const uint8_t *)page;
+static const size_t sheet_length = sizeof page - 1;
+
+static void verdicts(void) {
+    uint8_t copy[sizeof page];
+    check_answer("check", levzhada_check(sheet, sheet_length), 0, 0, 0, 0);
+    check_answer("check of no bytes", levzhada_check(sheet, 0), 11, 33, 0, 0);
+    check_answer("check of all but a byte", levzhada_check(sheet, sheet_length - 1), 11, sheet_length, 0, 0);
+    memcpy(copy, page, sizeof page);
+    copy[33 + 65 + 7] = '2'; /* row 1 at depth 2 */
+    check_answer("check of a depth", levzhada_check(copy, sheet_length), 14, 2, 0, 0);
+    memcpy(copy, page, sizeof page);
+    copy[sheet_length - 27 + 13] = 0xff; /* in "class" */
+    check_answer("check of bytes that are no UTF-8", levzhada_check(copy, sheet_length), 17, 7, 0, 0);
+}
+
+static void rows(void) {
+    check_answer("parent of 0", levzhada_parent(sheet, sheet_length, 0), 0, 0, 0, 0);
+    check_answer("parent of 5", levzhada_parent(sheet, sheet_length, 5), 0, 4, 0, 1);
+    check_answer("parent of 6", levzhada_parent(sheet, sheet_length, 6), 35, 6, 0, 0);
+    check_answer("first child of 0", levzhada_first_child(sheet, sheet_length, 0), 0, 1, 0, 1);
+    check_answer("first child of 3", levzhada_first_child(sheet, sheet_length, 3), 0, 0, 0, 0);
+    check_answer("next sibling of 1", levzhada_next_sibling(sheet, sheet_length, 1), 0, 3, 0, 1);
+    check_answer("next sibling of 4", levzhada_next_sibling(sheet, sheet_length, 4), 0, 0, 0, 0);
+    check_answer("next sibling in no sheet", levzhada_next_sibling(sheet, 32, 0), 11, 33, 0, 0);
+    check_answer("text length of 0", levzhada_text_length(sheet, sheet_length, 0), 0, 0, 0, 5);
+    check_answer("text length of 2", levzhada_text_length(sheet, sheet_length, 2), 0, 0, 0, 4);
+    check_answer("text length of 3", levzhada_text_length(sheet, sheet_length, 3), 0, 0, 0, 1);
+    check_answer("text length of 7", levzhada_text_length(sheet, sheet_length, 7), 35, 7, 0, 0);
+}
+
+static void attributes(void) {
+    levzhada_range r = levzhada_attribute(sheet, sheet_length, 0, bytes("class"), 5);
+    check_answer("class of 0", r.answer, 0, 0, 0, 3);
+    check("class of 0: present", r.present, 1);
+    check("class of 0: at", r.at, 17);
+    r = levzhada_attribute(sheet, sheet_length, 1, bytes("id"), 2);
+    check_answer("id of 1", r.answer, 0, 0, 0, 0);
+    check("id of 1: present", r.present, 1);
+    check("id of 1: at", r.at, 22);
+    r = levzhada_attribute(sheet, sheet_length, 1, bytes("class"), 5);
+    check_answer("class of 1", r.answer, 0, 0, 0, 0);
+    check("class of 1: present", r.present, 0);
+    check("class of 1: at", r.at, 0);
+    r = levzhada_attribute(sheet, sheet_length, 6, bytes("id"), 2);
+    check_answer("id of 6", r.answer, 35, 6, 0, 0);
+    check("id of 6: present", r.present, 0);
+}
+
+static void patterns(void) {
+    check_answer("pattern 15, ad", levzhada_matches(15, bytes("ad"), 2), 0, 1, 0, 0);
+    check_answer("pattern 15, ad x", levzhada_matches(15, bytes("ad x"), 4), 0, 0, 0, 0);
+    check_answer("pattern 0, no bytes", levzhada_matches(0, bytes(""), 0), 0, 0, 0, 0);
+    check_answer("pattern 21", levzhada_matches(21, bytes("ad"), 2), 36, 21, 0, 0);
+}
+
+static void texts(void) {
+    uint8_t out[16];
+    memset(out, '#', sizeof out);
+    check_answer("collapse", levzhada_collapse(bytes(" a \n\tb"), 6, out, 8), 0, 0, 0, 4);
+    check_bytes("collapse", out, " a b\0\0\0\0########", 16);
+    memset(out, '#', sizeof out);
+    check_answer("collapse, out too short", levzhada_collapse(bytes(" a \n\tb"), 6, out, 3), 32, 4, 0, 0);
+    check_bytes("collapse, out too short", out, "################", 16);
+    check_answer("escape", levzhada_escape(bytes("a<\"&"), 4, out, 16), 0, 0, 0, 16);
+    check_bytes("escape", out, "a&lt;&quot;&amp;", 16);
+    check_answer("escape, out too short", levzhada_escape(bytes("a<\"&"), 4, out, 15), 32, 16, 0, 0);
+}
+
+int main(void) {
+    verdicts();
+    rows();
+    attributes();
+    patterns();
+    texts();
+    printf("%d checks from C, %d failed\n", checks, failures);
+    return failures != 0;
+}
