@@ -5,7 +5,7 @@ use mathlib.Core.List.{List, [], _∷_}
 use Prim.Native.Nat.{ℕ, zero, suc, _+_, _-_, _*_, _≤_, _<_, min}
 use native.Mathlib.Omega.{arith}
 use native.Mathlib.Numerals.{add-one}
-use lib.ListN.{length, getD, set, replicate, length-set, length-append}
+use lib.ListN.{length, getD, set, replicate, length-set, length-replicate}
 use Rattle.common.specs.Bytes.{Bytes}
 use Rattle.common.proofs.Choice.{by-test}
 use Rattle.sheet.specs.Accepted.{Accepted}
@@ -18,7 +18,7 @@ use Rattle.tree.specs.Node.{Node}
 use Rattle.tree.specs.Page.{nodeAt}
 use Rattle.tree.specs.Rows.{rowsFrom, pastOf}
 use Rattle.tree.specs.TextContent.{textData}
-use Rattle.tree.proofs.Column.{below-length, depth-is, depth-small}
+use Rattle.tree.proofs.Column.{below-length, past-length, depth-is, depth-small}
 use Rattle.tree.proofs.Descendants.{descendants}
 use Rattle.tree.proofs.PastLaws.{past-of-low, past-of-high}
 use Rattle.tree.proofs.SheetColumn.{well-formed}
@@ -27,7 +27,7 @@ use Rattle.links.specs.Counting.{countsOf, withText, lowered, countRow, 
 use Rattle.links.specs.Links.{isLink, textBytes, linksAmong, linkBytes}
 use Rattle.links.specs.declared.counts.Counting.{Counting}
 use Rattle.links.specs.declared.counts.Counts.{Counts}
-use Rattle.links.proofs.Counted.{Counted, counted-more}
+use Rattle.links.proofs.Counted.{Counted, counted-done, counted-stop, counted-more}
 use Rattle.links.proofs.LinkLaws.{link-no-data}
 use Rattle.links.proofs.Paths.{below-mono, below-most}
 
@@ -63,9 +63,9 @@ module _ (c : Counting) (depth above old : ℕ) (t : Bytes) where
       go (b ∷ t) e = absurd (omega arith)
 
   module _ (some : length t ≡ 0 → ⊥) {len own : ℕ} (len-is : len ≡ length (collapseFrom isSpace (c .space) t)) (own-is : own ≡ length (collapse t)) where
-    pub with-some : {space : Bool} → space ≡ spaceAfter isSpace (c .space) t
-        → record { text = c .text + len; links = c .links + old * len + (above - old) * own; space = space; low = depth } ≡ withText c depth above old t
-    with-some {space} s = rw (len-is, own-is, s) (go t some)
+    pub with-some : {links : ℕ} {space : Bool} → links ≡ c .links + old * len + (above - old) * own → space ≡ spaceAfter isSpace (c .space) t
+        → record { text = c .text + len; links = links; space = space; low = depth } ≡ withText c depth above old t
+    with-some {links} {space} m s = rw (m, len-is, own-is, s) (go t some)
       where
         go : (t : Bytes) → (length t ≡ 0 → ⊥)
             → record { text = c .text + length (collapseFrom isSpace (c .space) t); links = c .links + old * length (collapseFrom isSpace (c .space) t) + (above - old) * length (collapse t); space = spaceAfter isSpace (c .space) t; low = depth }
@@ -74,10 +74,10 @@ module _ (c : Counting) (depth above old : ℕ) (t : Bytes) where
         go (b ∷ t) n = refl
 
     pub some-text : withText c depth above old t .text ≡ c .text + len
-    some-text = sym (ap (λ (k : Counting). k .text) (with-some refl))
+    some-text = sym (ap (λ (k : Counting). k .text) (with-some refl refl))
 
     pub some-links : withText c depth above old t .links ≡ c .links + old * len + (above - old) * own
-    some-links = sym (ap (λ (k : Counting). k .links) (with-some refl))
+    some-links = sym (ap (λ (k : Counting). k .links) (with-some refl refl))
 
 -- ---- one row more
 
@@ -103,20 +103,17 @@ module _ (n : Node) (depth : ℕ) (around : List ℕ) where
   pub around-other : isLink n ≡ false → set around (depth + 1) (getD around depth 0) ≡ aroundAfter n depth around
   around-other e = rw (e, add-one)
 
-  pub around-length : length (aroundAfter n depth around) ≡ length around
-  around-length = simp length-set
-
 pub zeros : (n e : ℕ) → _≡_ {A = ℕ} (getD (replicate n 0) e 0) 0
 zeros zero e = refl
 zeros (suc n) zero = refl
 zeros (suc n) (suc e) = zeros n e
 
+pub zeros-size : {around : List ℕ} → around ≡ replicate 502 0 → length around ≡ 502
+zeros-size e = ap length e ∙ length-replicate {A = ℕ} 502 0
+
 -- ---- the sums stay small
 
 module _ {s : Bytes} {l : Layout} (a : Accepted s l) where
-  pub depth-most : {r : Row} (j : ℕ) → j < l .nodes → r ≡ rowAt s l j → r .depth ≤ 500
-  depth-most j h e = rw e (depth-small s l a j h)
-
   links-rows-small : (i n : ℕ) → i + n ≤ l .nodes → linksAmong (nodeAt s l) (depths s l) (rowsFrom i n) ≤ n * (20000 * 4194304)
   unfolding linksAmong rowsFrom
   links-rows-small i zero h = omega arith
@@ -135,50 +132,49 @@ module _ {s : Bytes} {l : Layout} (a : Accepted s l) where
       rw (descendants d (well-formed a) i)
       (omega (arith, links-rows-small (suc i) (pastOf d i - suc i) (omega (arith, past-of-low d i)), a .sized .nodes))
 
-  module _ {i j : ℕ} {c : Counting} {around : List ℕ} (h : i < l .nodes) (k : Counted (nodeAt s l) (depths s l) i j c around) where
-    pub counted-text-most : c .text ≤ textBytes (nodeAt s l) (depths s l) i
-    counted-text-most = omega (arith, k .text-sum)
+  -- ---- the pass: row i at depth d is measured, row j is the next
 
-    pub counted-text-small : c .text ≤ 20000 * 4194304
-    counted-text-small = omega (arith, counted-text-most, length-small a i h)
+  module _ {i j d : ℕ} {c : Counting} {around : List ℕ} (h : i < l .nodes) (d-is : d ≡ getD (depths s l) i 0) (k : Counted (nodeAt s l) (depths s l) i j c around) where
+    abbrev Answers : ℕ → Type 0
+    Answers most = CountsUpTo most (nodeAt s l) (depths s l) i (record { text = c .text; links = c .links })
 
-    pub counted-links-small : c .links ≤ 20000 * (20000 * 4194304)
-    counted-links-small = omega (arith, k .links-sum, links-small i h)
+    exact : (most : ℕ) → (c .text ≡ textBytes (nodeAt s l) (depths s l) i) × (c .links ≡ linkBytes (nodeAt s l) (depths s l) i) → Answers most
+    exact most e = record { within = λ g. rw (e .0, e .1); beyond = λ g. omega (arith, e .0) }
 
-    -- row j, which stands below row i
-    module _ {r : Row} (g : j < l .nodes) (r-is : r ≡ rowAt s l j) (deeper : getD (depths s l) i 0 < r .depth) (size : length around ≡ 502) where
+    pub pass-done : (most : ℕ) → l .nodes ≤ j → Answers most
+    pass-done most g = exact most (counted-done (nodeAt s l) (depths s l) (well-formed a) i k (past-length s l j g))
+
+    pub pass-beyond : {most : ℕ} → most < c .text → Answers most
+    pass-beyond g = record { within = λ n. absurd (omega (arith, k .text-sum)); beyond = λ n. g }
+
+    module _ {r : Row} (g : j < l .nodes) (r-is : r ≡ rowAt s l j) where
       depth-here : r .depth ≡ getD (depths s l) j 0
       depth-here = depth-is s l j g (ap (λ (r : Row). r .depth) r-is)
 
-      x-most : r .depth ≤ k .top
-      x-most = omega (arith, depth-here, k .next (below-length s l j g))
+      pub pass-stop : (most : ℕ) → r .depth ≤ d → Answers most
+      pass-stop most n = exact most (counted-stop (nodeAt s l) (depths s l) (well-formed a) i k (r .depth) (below-length s l j g) depth-here (omega arith))
 
-      next : Counted (nodeAt s l) (depths s l) i (j + 1) (countRow (nodeAt s l j) (r .depth) c around) (aroundAfter (nodeAt s l j) (r .depth) around)
-      next =
-          counted-more (nodeAt s l) (depths s l) (well-formed a) i k (r .depth) (below-length s l j g) depth-here deeper (omega (arith, depth-most j g r-is))
+      -- one that stands below row i
+      module _ (size : length around ≡ 502) (deeper : d < r .depth) where
+        deep : r .depth ≤ 500
+        deep = rw r-is (depth-small s l a j g)
 
-      pub counted-step : {n : Counting} {after : List ℕ} → n ≡ countRow (nodeAt s l j) (r .depth) c around → after ≡ aroundAfter (nodeAt s l j) (r .depth) around
-          → Counted (nodeAt s l) (depths s l) i (j + 1) n after
-      counted-step p q = rw (p, q) next
+        next : Counted (nodeAt s l) (depths s l) i (j + 1) (countRow (nodeAt s l j) (r .depth) c around) (aroundAfter (nodeAt s l j) (r .depth) around)
+        next = counted-more (nodeAt s l) (depths s l) (well-formed a) i k (r .depth) (below-length s l j g) depth-here (omega arith) (omega (arith, deep))
 
-      pub counted-room : Room (nodeAt s l j) (r .depth) c around
-      counted-room =
-          let m = min (c .low) (r .depth) in
-          record {
-            size = size;
-            ordered = omega (arith, k .around-is m (omega (arith, x-most)), k .around-is (r .depth) x-most, below-mono m (r .depth) (k .path) (omega arith));
-            few = omega (arith, k .around-is (r .depth) x-most, below-most (r .depth) (k .path), k .few, a .sized .nodes);
-            text = omega (arith, next .text-sum, length-small a i h);
-            links = omega (arith, next .links-sum, links-small i h);
-          }
+        pub pass-room : Room (nodeAt s l j) (r .depth) c around
+        pass-room =
+            let m = min (c .low) (r .depth) in
+            let top : r .depth ≤ k .top = omega (arith, depth-here, k .next (below-length s l j g)) in
+            record {
+              deep = deep;
+              size = size;
+              ordered = omega (arith, k .around-is m (omega arith), k .around-is (r .depth) top, below-mono m (r .depth) (k .path) (omega arith));
+              few = omega (arith, k .around-is (r .depth) top, below-most (r .depth) (k .path), k .few, a .sized .nodes);
+              text = omega (arith, next .text-sum, length-small a i h);
+              links = omega (arith, next .links-sum, links-small i h);
+            }
 
-  -- ---- what the pass gives
-
-  module _ (most : ℕ) {i : ℕ} (c : Counting) where
-    pub pass-exact : (c .text ≡ textBytes (nodeAt s l) (depths s l) i) × (c .links ≡ linkBytes (nodeAt s l) (depths s l) i)
-        → CountsUpTo most (nodeAt s l) (depths s l) i (record { text = c .text; links = c .links })
-    pass-exact e = record { within = λ h. rw (e .0, e .1); beyond = λ h. omega (arith, e .0) }
-
-    pub pass-beyond : {j : ℕ} {around : List ℕ} → Counted (nodeAt s l) (depths s l) i j c around → most < c .text
-        → CountsUpTo most (nodeAt s l) (depths s l) i (record { text = c .text; links = c .links })
-    pass-beyond k g = record { within = λ h. absurd (omega (arith, k .text-sum)); beyond = λ h. g }
+        pub pass-more : {n : Counting} {after : List ℕ} → n ≡ countRow (nodeAt s l j) (r .depth) c around → after ≡ aroundAfter (nodeAt s l j) (r .depth) around
+            → (length after ≡ 502) × Counted (nodeAt s l) (depths s l) i (j + 1) n after
+        pass-more p q = (ap length q ∙ simp length-set size, rw (p, q) next)

@@ -11,10 +11,15 @@ use borrow.Author.Tests.{lt-ltb, le-ltb, ltb-true, ltb-false, eqb-true, eqb-fals
 use Rattle.common.proofs.Choice.{by-test, absurd-test}
 use Rattle.quotient.specs.Quotient.{quotient, fifth, threeFifths}
 use Rattle.quotient.proofs.QuotientLaws.{quotient-lt, fifth-is, threeFifths-is}
-use Rattle.links.specs.Exact.{Possible, saysYes, RulesAreExact}
-use Rattle.links.specs.Links.{isTooLong, exceeds, fifthOfAny, fifthOf500, threeFifthsOf800, threeFifthsOf1500}
+use Rattle.sheet.specs.Layout.{depths}
+use Rattle.tree.specs.Page.{nodeAt}
+use Rattle.tree.proofs.TextLengths.{length-small}
+use Rattle.links.specs.Exact.{Possible, saysYes, RulesAreExact, ElementsAreExact}
+use Rattle.links.specs.Links.{textBytes, linkBytes, isTooLong, exceeds, linkCluster, fifthOfAny, fifthOf500, threeFifthsOf800, threeFifthsOf1500}
 use Rattle.links.specs.declared.Measure.{Measure}
 use Rattle.links.specs.declared.Rule.{Rule}
+use Rattle.links.proofs.ClusterLaws.{cluster-of-element}
+use Rattle.links.proofs.CountLaws.{links-small}
 use Rattle.links.proofs.MeasureLaws.{measure-too-long, measure-no-text, measure-no-links, measure-share}
 
 product-pos : (a d n : ℕ) → n < d * a → 0 < a
@@ -66,4 +71,18 @@ rules-are-exact =
       fifth-of-500 = λ total links p. rw one-mul at (yes-within fifthOf500 1 5 fifth-is (lit≤ tt) (lit< tt) (lit≤ tt) total links p (lit< tt));
       three-fifths-of-800 = λ total links p. yes-within threeFifthsOf800 3 5 threeFifths-is (lit≤ tt) (lit< tt) (lit≤ tt) total links p (lit< tt);
       three-fifths-of-1500 = λ total links p. yes-within threeFifthsOf1500 3 5 threeFifths-is (lit≤ tt) (lit< tt) (lit≤ tt) total links p (lit< tt);
+    }
+
+-- the counts of a row of an accepted sheet are possible
+pub elements-are-exact : ElementsAreExact
+elements-are-exact s l a i h e =
+    let n = nodeAt s l in
+    let d = depths s l in
+    let p : Possible (textBytes n d i) (linkBytes n d i) = record { total-most = length-small a i h; links-most = links-small a i h } in
+    let at : (rule : Rule) → linkCluster n d rule i ≡ saysYes rule (textBytes n d i) (linkBytes n d i) = λ rule. sym (cluster-of-element rule n d i e) in
+    record {
+      fifth-of-any = rw (at fifthOfAny) (rules-are-exact .fifth-of-any _ _ p);
+      fifth-of-500 = rw (at fifthOf500) (rules-are-exact .fifth-of-500 _ _ p);
+      three-fifths-of-800 = rw (at threeFifthsOf800) (rules-are-exact .three-fifths-of-800 _ _ p);
+      three-fifths-of-1500 = rw (at threeFifthsOf1500) (rules-are-exact .three-fifths-of-1500 _ _ p);
     }

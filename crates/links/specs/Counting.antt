@@ -46,6 +46,7 @@ aroundAfter n depth around = set around (suc depth) (oneMoreIf (isLink n) (getD 
 
 -- what the step asks: the array has a place for each depth and one more, and the counts stay small
 pub record Room (n : Node) (depth : ℕ) (c : Counting) (around : List ℕ) : Type 0 where
+  pub deep : depth ≤ 500
   pub size : length around ≡ 502
   pub ordered : getD around (min (c .low) depth) 0 ≤ getD around depth 0
   pub few : getD around depth 0 ≤ 20000

@@ -1,10 +1,16 @@
 -- What is to be shown of the four rules, as types: document 01, module 4, "Prove that this is yes exactly when 5·links > text, or 5·links > 3·text."
 use mathlib.Core.Path.{_≡_}
 use mathlib.Core.Bool.{Bool, true}
-use mathlib.Core.List.{List, [], _∷_, map}
+use mathlib.Core.List.{List}
 use mathlib.Core.Logic.{_↔_}
 use Prim.Native.Nat.{ℕ, _*_, _≤_, _<_}
-use Rattle.links.specs.Links.{measureOf, exceeds, fifthOfAny, fifthOf500, threeFifthsOf800, threeFifthsOf1500}
+use Rattle.common.specs.Bytes.{Bytes}
+use Rattle.sheet.specs.Accepted.{Accepted}
+use Rattle.sheet.specs.Layout.{depths}
+use Rattle.sheet.specs.declared.line.Layout.{Layout}
+use Rattle.tree.specs.Node.{element, Node}
+use Rattle.tree.specs.Page.{nodeAt}
+use Rattle.links.specs.Links.{textBytes, linkBytes, measureOf, exceeds, linkCluster, fifthOfAny, fifthOf500, threeFifthsOf800, threeFifthsOf1500}
 use Rattle.links.specs.declared.Rule.{Rule}
 
 -- counts that a sheet can have: it has at most 20,000 rows, each shows at most 4,194,304 bytes, and each is one link at most
@@ -21,3 +27,18 @@ pub record RulesAreExact : Type 0 where
   pub fifth-of-500 : (total links : ℕ) → Possible total links → (saysYes fifthOf500 total links ≡ true) ↔ ((0 < total) × (total ≤ 500) × (total < 5 * links))
   pub three-fifths-of-800 : (total links : ℕ) → Possible total links → (saysYes threeFifthsOf800 total links ≡ true) ↔ ((0 < total) × (total ≤ 800) × (3 * total < 5 * links))
   pub three-fifths-of-1500 : (total links : ℕ) → Possible total links → (saysYes threeFifthsOf1500 total links ≡ true) ↔ ((0 < total) × (total ≤ 1500) × (3 * total < 5 * links))
+
+-- the same of row i of a tree
+pub record ClustersAreExact (nodeOf : ℕ → Node) (depths : List ℕ) (i : ℕ) : Type 0 where
+  pub fifth-of-any : (linkCluster nodeOf depths fifthOfAny i ≡ true) ↔ ((0 < textBytes nodeOf depths i) × (textBytes nodeOf depths i < 5 * linkBytes nodeOf depths i))
+  pub fifth-of-500 : (linkCluster nodeOf depths fifthOf500 i ≡ true)
+      ↔ ((0 < textBytes nodeOf depths i) × (textBytes nodeOf depths i ≤ 500) × (textBytes nodeOf depths i < 5 * linkBytes nodeOf depths i))
+  pub three-fifths-of-800 : (linkCluster nodeOf depths threeFifthsOf800 i ≡ true)
+      ↔ ((0 < textBytes nodeOf depths i) × (textBytes nodeOf depths i ≤ 800) × (3 * textBytes nodeOf depths i < 5 * linkBytes nodeOf depths i))
+  pub three-fifths-of-1500 : (linkCluster nodeOf depths threeFifthsOf1500 i ≡ true)
+      ↔ ((0 < textBytes nodeOf depths i) × (textBytes nodeOf depths i ≤ 1500) × (3 * textBytes nodeOf depths i < 5 * linkBytes nodeOf depths i))
+
+-- of every element of an accepted sheet
+abbrev pub ElementsAreExact : Type 0
+ElementsAreExact =
+    (s : Bytes) (l : Layout) → Accepted s l → (i : ℕ) → i < l .nodes → nodeAt s l i .kind ≡ element → ClustersAreExact (nodeAt s l) (depths s l) i

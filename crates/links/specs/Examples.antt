@@ -1,10 +1,15 @@
--- Worked examples of a rule: document 01, "Rule (0.2, 500), text 100: 20 link bytes no, 21 yes; text 500 measured, 501 too long".
+-- Worked examples: of a rule (document 01, "Rule (0.2, 500), text 100: 20 link bytes no, 21 yes; text 500 measured, 501 too long"), and of the counts of a page.
 use mathlib.Core.Path.{_≡_}
 use mathlib.Core.Bool.{Bool, true, false}
 use mathlib.Core.List.{List, [], _∷_, map}
 use Prim.Native.Nat.{ℕ}
+use Prim.Native.String.{String}
+use lib.ListN.{getD}
+use Rattle.common.specs.Bytes.{codes}
 use Rattle.quotient.specs.Quotient.{quotient}
-use Rattle.links.specs.Links.{measureOf, exceeds, fifthOf500}
+use Rattle.tree.specs.Node.{Kind, element, text, comment, Node}
+use Rattle.tree.specs.Rows.{rowsFrom}
+use Rattle.links.specs.Links.{textBytes, linkBytes, measureOf, exceeds, fifthOf500}
 use Rattle.links.specs.declared.Measure.{Measure}
 use Rattle.links.specs.declared.Measure.the-variants.{NoText, TooLong, NoLinks, Share}
 
@@ -34,3 +39,36 @@ examples =
 
 abbrev pub ExamplesHold : Type 0
 ExamplesHold = map computed examples ≡ examples
+
+-- ---- text bytes and link bytes of each row of a page
+
+abbrev pub named : String → Node
+named name = record { kind = element; name = codes name; value = []; attributes = [] }
+
+abbrev pub says : Kind → String → Node
+says kind value = record { kind = kind; name = []; value = codes value; attributes = [] }
+
+-- `x <a> y <b> z</b><a>w</a></a><!-- c -->  v`: a blank at the start of a link counts for it, though one stands before it; the inner link's byte counts in both
+abbrev pub page : List (ℕ × Node)
+page =
+    (0, named "body")
+    ∷ (1, says text "x ")
+    ∷ (1, named "a")
+    ∷ (2, says text " y ")
+    ∷ (2, named "b")
+    ∷ (3, says text " z")
+    ∷ (2, named "a")
+    ∷ (3, says text "w")
+    ∷ (1, says comment " c ")
+    ∷ (1, says text "  v")
+    ∷ []
+
+abbrev pub nodeOf : ℕ → Node
+nodeOf i = getD (map (λ r. r .1) page) i (named "")
+
+abbrev pub countsAt : ℕ → ℕ × ℕ
+countsAt i = (textBytes nodeOf (map (λ r. r .0) page) i, linkBytes nodeOf (map (λ r. r .0) page) i)
+
+-- "x y zw v" and " y zw" + "w" for the body; of a row that is no element its value
+abbrev pub CountsHold : Type 0
+CountsHold = map countsAt (rowsFrom 0 10) ≡ (8, 6) ∷ (2, 0) ∷ (5, 1) ∷ (3, 0) ∷ (2, 0) ∷ (2, 0) ∷ (1, 0) ∷ (1, 0) ∷ (3, 0) ∷ (2, 0) ∷ []

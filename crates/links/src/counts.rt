@@ -7,7 +7,7 @@ use sheet::read::row_at;
 use text::collapsed_from;
 use text::is_space;
 ghost use mathlib.Core.Path.{_≡_};
-ghost use Prim.Native.Nat.{_*_, _≤_, _<_, min};
+ghost use Prim.Native.Nat.{_+_, _*_, _≤_, _<_, min};
 ghost use lib.ListN.{length, replicate};
 ghost use Rattle.sheet.specs.Accepted.{Accepted};
 ghost use Rattle.sheet.specs.Layout.{depths, rowAt};
@@ -56,6 +56,13 @@ fn own_len(t: &[u8], space: bool, len: usize) -> usize
     len
 }
 
+fn more_links(links: usize, old: usize, len: usize, new: usize, own: usize) -> usize
+    requires { ⌜ links + old * len + new * own ≤ 20000 * (20000 * 4194304) ⌝ }
+    ensures { λ r. ⌜ r ≡ links + old * len + new * own ⌝ }
+{
+    links + old * len + new * own
+}
+
 fn add_text(t: &[u8], c: Counting, depth: usize, above: usize, old: usize) -> Counting
     requires { ⌜ (old ≤ above) × (withText c depth above old (now t) .text ≤ 20000 * 4194304) × (withText c depth above old (now t) .links ≤ 20000 * (20000 * 4194304)) ⌝ }
     ensures { λ r. ⌜ r ≡ withText c depth above old (now (t .entry)) ⌝ }
@@ -67,7 +74,7 @@ fn add_text(t: &[u8], c: Counting, depth: usize, above: usize, old: usize) -> Co
     let own = own_len(t, c.space, q.len);
     Counting {
         text: c.text + q.len,
-        links: c.links + old * q.len + (above - old) * own,
+        links: more_links(c.links, old, q.len, above - old, own),
         space: q.space,
         low: depth,
     }

@@ -1,4 +1,3 @@
--- `counts::add_text` meets its contract.
 use mathlib.Core.Path.{_≡_, refl, sym, ap, _∙_}
 use native.Mathlib.Omega.{arith}
 use denote.Ref.{now}
@@ -6,51 +5,46 @@ use Rattle.links.proofs.CountLaws.{with-none, with-some, some-text, som
 use borrow.Author.Needs.{needs}
 use Rattle.links.proofs.counts.add_text.Statement.{statement}
 use Rattle.links.proofs.counts.add_text.Tie as tie
+use Rattle.links.proofs.counts.add_text.Reads as reads
+use Rattle.links.proofs.counts.add_text.Lts as lts
+use Rattle.links.proofs.counts.more_links.Reads as more-links-reads
+use Rattle.links.proofs.counts.own_len.Reads as own-len-reads
+use Rattle.text.proofs.collapsed_from.Reads as collapsed-from-reads
 
+-- src/counts.rt:71:9
 returns : tie.Need-returns
 returns c = let a = c .before .before .args in with-none (a .c) (a .depth) (a .above) (a .old) (now (a .t)) (c .if1 .taken)
 
+-- src/counts.rt:73:9
 collapsed-from-requires : tie.Need-collapsed-from-requires
 collapsed-from-requires c κs = search needs
 
+-- src/counts.rt:74:9
 own-len-requires : tie.Need-own-len-requires
 own-len-requires c κs = c .collapsed-from .ensures .0
 
+-- src/counts.rt:76:15
 add-t8 : tie.Need-add-t8
 add-t8 c =
-    let p = c .before .before .before .before .before .before .pre in
     let a = c .before .before .before .before .before .before .args in
+    let p = c .before .before .before .before .before .before .pre in
     omega (arith, some-text (a .c) (a .depth) (a .above) (a .old) (now (a .t)) (c .before .before .before .before .if1 .left) (c .before .before .before .collapsed-from .ensures .0) (c .before .before .own-len .ensures))
 
-mul-t10 : tie.Need-mul-t10
-mul-t10 c =
-    let p = c .before .before .before .before .before .before .before .pre in
-    let a = c .before .before .before .before .before .before .before .args in
-    omega (arith, some-links (a .c) (a .depth) (a .above) (a .old) (now (a .t)) (c .before .before .before .before .before .if1 .left) (c .before .before .before .before .collapsed-from .ensures .0) (c .before .before .before .own-len .ensures))
+-- src/counts.rt:77:48
+sub-more-links : tie.Need-sub-more-links
+sub-more-links c = search needs
 
-add-t11 : tie.Need-add-t11
-add-t11 c =
-    let p = c .before .before .before .before .before .before .before .before .pre in
-    let a = c .before .before .before .before .before .before .before .before .args in
-    omega (arith, some-links (a .c) (a .depth) (a .above) (a .old) (now (a .t)) (c .before .before .before .before .before .before .if1 .left) (c .before .before .before .before .before .collapsed-from .ensures .0) (c .before .before .before .before .own-len .ensures))
+-- src/counts.rt:77:16
+more-links-requires : tie.Need-more-links-requires
+more-links-requires c κs =
+    let a = c .before .before .before .before .before .before .args in
+    rw (some-links (a .c) (a .depth) (a .above) (a .old) (now (a .t)) (c .before .before .before .before .if1 .left) (c .before .before .before .collapsed-from .ensures .0) (c .before .before .own-len .ensures)) at (c .before .before .before .before .before .before .pre .2)
 
-sub-t12 : tie.Need-sub-t12
-sub-t12 c = c .before .before .before .before .before .before .before .before .pre .0
-
-mul-t13 : tie.Need-mul-t13
-mul-t13 c =
-    let p = c .before .before .before .before .before .before .before .before .pre in
-    let a = c .before .before .before .before .before .before .before .before .args in
-    omega (arith, some-links (a .c) (a .depth) (a .above) (a .old) (now (a .t)) (c .before .before .before .before .before .before .if1 .left) (c .before .before .before .before .before .collapsed-from .ensures .0) (c .before .before .before .before .own-len .ensures))
-
-add-t14 : tie.Need-add-t14
-add-t14 c =
-    let p = c .before .before .before .before .before .before .before .before .pre in
-    let a = c .before .before .before .before .before .before .before .before .args in
-    omega (arith, some-links (a .c) (a .depth) (a .above) (a .old) (now (a .t)) (c .before .before .before .before .before .before .if1 .left) (c .before .before .before .before .before .collapsed-from .ensures .0) (c .before .before .before .before .own-len .ensures))
-
+-- src/counts.rt:66:1
 returns-2 : tie.Need-returns-2
-returns-2 c = let a = c .before .before .before .before .before .before .before .before .args in with-some (a .c) (a .depth) (a .above) (a .old) (now (a .t)) (c .before .before .before .before .before .before .if1 .left) (c .before .before .before .before .before .collapsed-from .ensures .0) (c .before .before .before .before .own-len .ensures) (c .before .before .before .before .before .collapsed-from .ensures .1)
+returns-2 c =
+    let a = c .before .before .before .before .before .before .before .args in
+    with-some (a .c) (a .depth) (a .above) (a .old) (now (a .t)) (c .before .before .before .before .before .if1 .left) (c .before .before .before .before .collapsed-from .ensures .0) (c .before .before .before .own-len .ensures) (c .more-links .ensures) (c .before .before .before .before .collapsed-from .ensures .1)
 
 pub add-text-spec : {M : Type 1} → statement M
 add-text-spec =
@@ -60,9 +54,6 @@ add-text-spec =
     collapsed-from-requires
     own-len-requires
     add-t8
-    mul-t10
-    add-t11
-    sub-t12
-    mul-t13
-    add-t14
+    sub-more-links
+    more-links-requires
     returns-2)

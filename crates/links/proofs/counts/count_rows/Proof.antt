@@ -1,96 +1,111 @@
--- `counts::count_rows` meets its contract.
-use Prim.Native.Nat.{ℕ, _-_, _≤_}
-use mathlib.Core.Path.{_≡_, refl, sym, ap, _∙_}
+use Prim.Native.Nat.{_-_, _≤_}
+use mathlib.Core.Path.{_≡_, refl, sym, _∙_}
 use native.Mathlib.Omega.{arith}
 use denote.Ref.{now}
-use lib.ListN.{length, length-replicate}
+use lib.ListN.{length, getD}
 use Rattle.sheet.specs.Layout.{depths}
-use Rattle.sheet.specs.declared.line.Row.{Row}
 use Rattle.tree.specs.Page.{nodeAt}
-use Rattle.tree.proofs.Column.{below-length, past-length, depth-is}
+use Rattle.tree.proofs.Column.{below-length, depth-is}
 use Rattle.tree.proofs.PageLaws.{is-element}
 use Rattle.tree.proofs.SheetColumn.{well-formed}
-use Rattle.links.proofs.CountLaws.{zeros, around-length, counted-step, counted-room, pass-exact, pass-beyond}
-use Rattle.links.proofs.Counted.{Counted, counted-start, counted-done, counted-stop}
+use Rattle.links.proofs.CountLaws.{zeros, zeros-size, pass-done, pass-beyond, pass-stop, pass-room, pass-more}
+use Rattle.links.proofs.Counted.{Counted, counted-start}
 use Rattle.links.proofs.counts.count_rows.Statement.{statement}
 use Rattle.links.proofs.counts.count_rows.Tie as tie
+use Rattle.links.proofs.counts.count_rows.Reads as reads
+use Rattle.links.proofs.counts.count_rows.Lts as lts
+use Rattle.links.proofs.counts.count_row.Reads as count-row-reads
+use Rattle.sheet.proofs.read.depth_at.Reads as depth-at-reads
+use Rattle.sheet.proofs.read.row_at.Reads as row-at-reads
 
 abbrev Inv-loop : tie.InvT-loop
-Inv-loop s l i most around₀ nodes d c₀ j₀ around c j = (j ≤ nodes) × (length around ≡ length around₀) × Counted (nodeAt s l) (depths s l) i j c around
+Inv-loop s l i most around₀ nodes d c₀ j₀ around c j = (j ≤ nodes) × (d ≡ getD (depths s l) i 0) × (length around ≡ 502) × Counted (nodeAt s l) (depths s l) i j c around
 
 abbrev μ-loop : tie.MeasureT-loop
 μ-loop s l i most around₀ nodes d c₀ j₀ around c j = nodes - j
 
+-- src/counts.rt:125:9
 depth-at-requires : tie.Need-depth-at-requires Inv-loop μ-loop
 depth-at-requires c κs = (c .before .before .pre .0, c .before .before .pre .1)
 
+-- src/counts.rt:132:17
 add-j : tie.Need-add-j Inv-loop μ-loop
 add-j c = omega (arith, c .before .before .before .pre .0 .sized .nodes)
 
+-- src/counts.rt:133:5
 loop-holds : tie.Need-loop-holds Inv-loop μ-loop
 loop-holds c =
     let a = c .before .before .before .args in
     let p = c .before .before .before .pre in (
       omega arith,
-      refl,
+      depth-is _ _ _ (p .1) (c .depth-at .ensures),
+      zeros-size (p .3),
       counted-start (nodeAt (now (a .s)) (a .l)) (depths (now (a .s)) (a .l)) (well-formed (p .0)) (a .i) (below-length _ _ _ (p .1)) (is-element _ _ _ refl (p .2)) (rw (p .3) (zeros 502)),
     )
 
+-- src/counts.rt:134:13
 row-at-requires : tie.Need-row-at-requires Inv-loop μ-loop
 row-at-requires c κs = (c .before .before .before .before .before .pre .0, c .loop-test .taken)
 
+-- src/counts.rt:136:13
 same-length : tie.Need-same-length Inv-loop μ-loop
-same-length c = c .before .before .before .before .loop .inv .1
+same-length c = c .before .before .before .before .loop .inv .2 ∙ sym (zeros-size (c .before .before .before .before .before .before .before .before .pre .3))
 
+-- src/counts.rt:136:13
 returns : tie.Need-returns Inv-loop μ-loop
 returns c =
-    let a = c .before .before .before .before .before .before .before .before .args in
-    let below = rw (depth-is _ _ _ (c .before .before .before .before .before .before .before .before .pre .1) (c .before .before .before .before .before .depth-at .ensures)) at (c .if1 .taken) in
-    pass-exact (c .before .before .before .before .before .before .before .before .pre .0) (a .most) (c .before .before .before .before .loop .c)
-    (counted-stop (nodeAt (now (a .s)) (a .l)) (depths (now (a .s)) (a .l)) (well-formed (c .before .before .before .before .before .before .before .before .pre .0)) (a .i) (c .before .before .before .before .loop .inv .2) (c .before .before .row-at .result .depth) (below-length _ _ _ (c .before .before .before .loop-test .taken))
-    (depth-is _ _ _ (c .before .before .before .loop-test .taken) (ap (λ (r : Row). r .depth) (c .before .before .row-at .ensures))) below)
+    let p = c .before .before .before .before .before .before .before .before .pre in
+    let v = c .before .before .before .before .loop .inv in
+    pass-stop (p .0) (p .1) (v .1) (v .3) (c .before .before .before .loop-test .taken) (c .before .before .row-at .ensures) _ (c .if1 .taken)
 
+-- src/counts.rt:141:9
 count-row-requires : tie.Need-count-row-requires Inv-loop μ-loop
 count-row-requires c κs =
     let p = c .before .before .before .before .before .before .before .before .before .pre in
-    let deeper = rw (depth-is _ _ _ (p .1) (c .before .before .before .before .before .before .depth-at .ensures)) at (c .before .if1 .left) in
-    let size = c .before .before .before .before .before .loop .inv .1 ∙ ap length (p .3) ∙ length-replicate {A = ℕ} 502 0 in
-    (p .0, c .before .before .before .before .loop-test .taken, c .before .before .before .row-at .ensures, counted-room (p .0) (p .1) (c .before .before .before .before .before .loop .inv .2) (c .before .before .before .before .loop-test .taken) (c .before .before .before .row-at .ensures) deeper size)
+    let v = c .before .before .before .before .before .loop .inv in
+    (p .0, c .before .before .before .before .loop-test .taken, c .before .before .before .row-at .ensures, pass-room (p .0) (p .1) (v .1) (v .3) (c .before .before .before .before .loop-test .taken) (c .before .before .before .row-at .ensures) (v .2) (c .before .if1 .left))
 
+-- src/counts.rt:143:13
 same-length-2 : tie.Need-same-length-2 Inv-loop μ-loop
-same-length-2 c = ap length (c .before .before .before .before .count-row .ensures .1) ∙ around-length (nodeAt (now (c .before .before .before .before .before .before .before .before .before .before .before .before .before .before .args .s)) (c .before .before .before .before .before .before .before .before .before .before .before .before .before .before .args .l) (c .before .before .before .before .before .before .before .before .before .before .loop .j)) (c .before .before .before .before .before .before .before .before .row-at .result .depth) (c .before .before .before .before .before .before .before .before .before .before .loop .around) ∙ c .before .before .before .before .before .before .before .before .before .before .loop .inv .1
+same-length-2 c =
+    let p = c .before .before .before .before .before .before .before .before .before .before .before .before .before .before .pre in
+    let v = c .before .before .before .before .before .before .before .before .before .before .loop .inv in
+    pass-more (p .0) (p .1) (v .1) (v .3) (c .before .before .before .before .before .before .before .before .before .loop-test .taken) (c .before .before .before .before .before .before .before .before .row-at .ensures) (v .2) (c .before .before .before .before .before .before .if1 .left) (c .before .before .before .before .count-row .ensures .0) (c .before .before .before .before .count-row .ensures .1) .0 ∙ sym (zeros-size (p .3))
 
+-- src/counts.rt:143:13
 returns-2 : tie.Need-returns-2 Inv-loop μ-loop
 returns-2 c =
     let p = c .before .before .before .before .before .before .before .before .before .before .before .before .before .before .pre in
-    let deeper = rw (depth-is _ _ _ (p .1) (c .before .before .before .before .before .before .before .before .before .before .before .depth-at .ensures)) at (c .before .before .before .before .before .before .if1 .left) in
-    let size = c .before .before .before .before .before .before .before .before .before .before .loop .inv .1 ∙ ap length (p .3) ∙ length-replicate {A = ℕ} 502 0 in
-    pass-beyond (p .0) (c .before .before .before .before .before .before .before .before .before .before .before .before .before .before .args .most) (c .before .before .before .before .count-row .result) (counted-step (p .0) (p .1) (c .before .before .before .before .before .before .before .before .before .before .loop .inv .2) (c .before .before .before .before .before .before .before .before .before .loop-test .taken) (c .before .before .before .before .before .before .before .before .row-at .ensures) deeper size (c .before .before .before .before .count-row .ensures .0) (c .before .before .before .before .count-row .ensures .1)) (c .if2 .taken)
+    let v = c .before .before .before .before .before .before .before .before .before .before .loop .inv in
+    let next = pass-more (p .0) (p .1) (v .1) (v .3) (c .before .before .before .before .before .before .before .before .before .loop-test .taken) (c .before .before .before .before .before .before .before .before .row-at .ensures) (v .2) (c .before .before .before .before .before .before .if1 .left) (c .before .before .before .before .count-row .ensures .0) (c .before .before .before .before .count-row .ensures .1) in
+    pass-beyond (p .0) (p .1) (v .1) (next .1) (c .if2 .taken)
 
+-- src/counts.rt:148:9
 add-j-2 : tie.Need-add-j-2 Inv-loop μ-loop
 add-j-2 c = omega (arith, c .before .before .before .before .before .before .before .before .before .before .before .before .before .before .pre .0 .sized .nodes, c .before .before .before .before .before .before .before .before .before .loop-test .taken)
 
+-- src/counts.rt:133:5
 loop-less : tie.Need-loop-less Inv-loop μ-loop
 loop-less c = omega (arith, c .before .before .before .before .before .before .before .before .before .loop-test .taken)
 
+-- src/counts.rt:133:5
 loop-again : tie.Need-loop-again Inv-loop μ-loop
 loop-again c =
     let p = c .before .before .before .before .before .before .before .before .before .before .before .before .before .before .pre in
-    let deeper = rw (depth-is _ _ _ (p .1) (c .before .before .before .before .before .before .before .before .before .before .before .depth-at .ensures)) at (c .before .before .before .before .before .before .if1 .left) in
-    let size = c .before .before .before .before .before .before .before .before .before .before .loop .inv .1 ∙ ap length (p .3) ∙ length-replicate {A = ℕ} 502 0 in (
-      omega (arith, c .before .before .before .before .before .before .before .before .before .loop-test .taken),
-      ap length (c .before .before .before .before .count-row .ensures .1) ∙ around-length (nodeAt (now (c .before .before .before .before .before .before .before .before .before .before .before .before .before .before .args .s)) (c .before .before .before .before .before .before .before .before .before .before .before .before .before .before .args .l) (c .before .before .before .before .before .before .before .before .before .before .loop .j)) (c .before .before .before .before .before .before .before .before .row-at .result .depth) (c .before .before .before .before .before .before .before .before .before .before .loop .around) ∙ c .before .before .before .before .before .before .before .before .before .before .loop .inv .1,
-      counted-step (p .0) (p .1) (c .before .before .before .before .before .before .before .before .before .before .loop .inv .2) (c .before .before .before .before .before .before .before .before .before .loop-test .taken) (c .before .before .before .before .before .before .before .before .row-at .ensures) deeper size (c .before .before .before .before .count-row .ensures .0) (c .before .before .before .before .count-row .ensures .1),
-    )
+    let v = c .before .before .before .before .before .before .before .before .before .before .loop .inv in
+    let next = pass-more (p .0) (p .1) (v .1) (v .3) (c .before .before .before .before .before .before .before .before .before .loop-test .taken) (c .before .before .before .before .before .before .before .before .row-at .ensures) (v .2) (c .before .before .before .before .before .before .if1 .left) (c .before .before .before .before .count-row .ensures .0) (c .before .before .before .before .count-row .ensures .1) in
+    (omega (arith, c .before .before .before .before .before .before .before .before .before .loop-test .taken), v .1, next .0, next .1)
 
+-- src/counts.rt:120:1
 same-length-3 : tie.Need-same-length-3 Inv-loop μ-loop
-same-length-3 c = c .before .loop .inv .1
+same-length-3 c = c .before .loop .inv .2 ∙ sym (zeros-size (c .before .before .before .before .before .pre .3))
 
+-- src/counts.rt:120:1
 returns-3 : tie.Need-returns-3 Inv-loop μ-loop
 returns-3 c =
-    let a = c .before .before .before .before .before .args in
-    pass-exact (c .before .before .before .before .before .pre .0) (a .most) (c .before .loop .c)
-    (counted-done (nodeAt (now (a .s)) (a .l)) (depths (now (a .s)) (a .l)) (well-formed (c .before .before .before .before .before .pre .0)) (a .i) (c .before .loop .inv .2) (past-length _ _ _ (c .loop-test .left)))
+    let p = c .before .before .before .before .before .pre in
+    let v = c .before .loop .inv in
+    pass-done (p .0) (p .1) (v .1) (v .3) _ (c .loop-test .left)
 
 pub count-rows-spec : {M : Type 1} → statement M
 count-rows-spec =
