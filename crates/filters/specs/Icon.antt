@@ -1,12 +1,9 @@
 -- Which text is an icon, by the option icons (document 01, "Options": "0 as the Rust (standing), 1 private").
-use mathlib.Core.Path.{_≡_}
 use mathlib.Core.Bool.{Bool, true, false, _&&_, _||_, cond}
 use mathlib.Core.List.{[], _∷_}
-use Prim.Native.Nat.{ℕ, _+_, _*_, _≤_}
+use Prim.Native.Nat.{ℕ, _+_, _*_}
 use lib.Dec.{leb}
 use Rattle.common.specs.Bytes.{Bytes, same}
-use Rattle.utf8.specs.Encoding.{encode}
-use Rattle.utf8.specs.Valid.{valid}
 
 -- `text == "¶"`: U+00B6
 abbrev pub isPilcrow : Bytes → Bool
@@ -32,8 +29,3 @@ ofThree test (a ∷ b ∷ c ∷ d ∷ s) = false
 unfoldable pub isIcon : Bool → Bytes → Bool
 unfolding inLegacyRange inPrivateUse
 isIcon icons text = isPilcrow text || ofThree (cond icons inPrivateUse inLegacyRange) text
-
--- what is to be shown of icons 1: "one character from U+E000 to U+F8FF"
-pub record PrivateUse : Type 0 where
-  pub each : (c : ℕ) → 0xE000 ≤ c → c ≤ 0xF8FF → ofThree inPrivateUse (encode c) ≡ true
-  pub only : (s : Bytes) → valid s ≡ true → ofThree inPrivateUse s ≡ true → (c : ℕ) × (0xE000 ≤ c) × (c ≤ 0xF8FF) × (s ≡ encode c)
