@@ -2,6 +2,9 @@
 pub mod added;
 pub mod tests;
 
+use html2text::ExtractNode;
+use writer::Writer;
+
 // A row at its beginning or at its end: its number, the number of its tag, its first attribute line and where its value lies; whether it
 // has children, and its depth below the root.
 pub struct Visit {
@@ -13,4 +16,12 @@ pub struct Visit {
     pub children: bool,
     pub depth: usize,
     pub end: bool,
+}
+
+// The entry that is open, if any: the line of the row that pushed it, its node, and its text's lengths.
+pub struct OpenEntry {
+    pub any: bool,
+    pub line: usize,
+    pub node: ExtractNode,
+    pub note: Writer,
 }
