@@ -1,0 +1,1 @@
+// The passes of an extraction over the rows of an accepted sheet, and the answer.
