@@ -2,8 +2,8 @@
 use mathlib.Core.Path.{refl}
 use Rattle.common.proofs.Puts.{puts-then, puts-one}
 use borrow.Author.Needs.{needs}
-use Rattle.desk.proofs.put_text.Statement.{statement}
-use Rattle.desk.proofs.put_text.Tie as tie
+use Rattle.printing.proofs.put_text.Statement.{statement}
+use Rattle.printing.proofs.put_text.Tie as tie
 
 put-requires : tie.Need-put-requires
 put-requires c κs = search needs

@@ -9,7 +9,7 @@ ghost use mathlib.Core.Path.{_≡_};
 ghost use Prim.Native.Nat.{_+_, _≤_};
 ghost use lib.ListN.{length};
 ghost use Rattle.common.specs.Puts.{Puts};
-ghost use Rattle.desk.specs.Desk.{answerLine, shown, TextFits};
+ghost use Rattle.printing.specs.Printed.{answerLine, shown, TextFits};
 
 fn put_answer(printed: &mut [u8], a: Answer) -> usize
     requires { ⌜ 33 ≤ length (now printed) ⌝ }

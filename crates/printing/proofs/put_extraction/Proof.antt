@@ -2,10 +2,10 @@
 use mathlib.Core.Path.{sym}
 use denote.Ref.{now}
 use lib.Seq.{length-take-le}
-use Rattle.desk.proofs.Showing.{shown-numbers, shown-text, text-room}
+use Rattle.printing.proofs.Showing.{shown-numbers, shown-text, text-room}
 use borrow.Author.Needs.{needs}
-use Rattle.desk.proofs.put_extraction.Statement.{statement}
-use Rattle.desk.proofs.put_extraction.Tie as tie
+use Rattle.printing.proofs.put_extraction.Statement.{statement}
+use Rattle.printing.proofs.put_extraction.Tie as tie
 
 of-extraction-requires : tie.Need-of-extraction-requires
 of-extraction-requires c κs = search needs

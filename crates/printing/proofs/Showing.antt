@@ -16,7 +16,7 @@ use Rattle.html2text.proofs.Extraction.{the-type}
 use Rattle.html2text.specs.declared.Extraction.{Extraction}
 use Rattle.html2text.specs.declared.Extraction.the-variants.{Text, Refused, ListLevels, OpenRows, WorkTooShort, OutTooShort}
 use Rattle.sheet.proofs.WritingColumns.{line-length}
-use Rattle.desk.specs.Desk.{answerLine, textIn, shown}
+use Rattle.printing.specs.Printed.{answerLine, textIn, shown}
 
 -- an extraction that is not a text, by the number of its case
 abbrev NoText : Extraction → Type 0

@@ -18,7 +18,7 @@ use Rattle.options.specs.declared.line.OptionLine.the-variants.{Options, Wrong}
 use Rattle.reader.specs.Extraction.{extractionOf, outAfterOf}
 use Rattle.reader.proofs.DemandsLaws.{demand-1}
 use Rattle.sheet.proofs.WritingColumns.{line-length}
-use Rattle.desk.specs.Desk.{room, answerLine, textIn, TextFits, shown, answered, printed}
+use Rattle.printing.specs.Printed.{room, answerLine, textIn, TextFits, shown, answered, printed}
 
 -- ---- length
 
