@@ -29,7 +29,8 @@ use Rattle.html2text.specs.Collect.{addedByElement, added, collect, collectAll}
 use Rattle.html2text.specs.Extract.{serialized, longestText, namesLength, longestNames, extraction, outAfter, extractionOf, outAfterOf}
 use Rattle.html2text.specs.Serialize.{endsBlank, separated, marginOut, margin, rows, between, besideCell, inRow, cell, countUncollapsed, level, numberOf, item, itemOut, htmlItem, htmlPre, htmlBr, htmlMarks, beforeTag, tagOut, htmlTag, blockMargin, indentText, lead, putText, afterOff, afterBasic, finishHtml, afterHtml, stepBy}
 use Rattle.html2text.specs.Walk.{events, visits}
-use Rattle.reader.specs.Pages.{cases, allRight, line, attributePool, poolOf, nodeLines, linesOf, attributeLines, attributeCount, sheetOf, PagesRight}
+use Rattle.sheet.specs.Writing.{line}
+use Rattle.reader.specs.Pages.{cases, allRight, attributePool, poolOf, nodeLines, linesOf, attributeLines, attributeCount, sheetOf, PagesRight}
 
 pub pages-right : PagesRight
 unfolding

@@ -12,7 +12,7 @@ use Rattle.options.specs.Options.{standing}
 use Rattle.options.specs.declared.ExtractOptions.{ExtractOptions}
 use Rattle.options.specs.declared.Formatting.{Formatting}
 use Rattle.options.specs.declared.Formatting.the-variants.{Off, Basic, MinimalHtml}
-use Rattle.sheet.specs.Columns.{columns}
+use Rattle.sheet.specs.Writing.{line}
 use Rattle.reader.specs.Extraction.{extractionOf, outAfterOf}
 
 -- ---- a sheet from its rows, the pool in their order
@@ -34,10 +34,6 @@ element d name attributes = record { depth = d; kind = 1; name = codes name; val
 abbrev words : ℕ → Bytes → Row
 words d value = record { depth = d; kind = 3; name = []; value = value; attributes = [] }
 
-unfoldable pub line : List ℕ → Bytes
-line [] = 10 ∷ []
-line (n ∷ ns) = columns 8 n ++ line ns
-
 unfoldable pub attributePool : List Attr → Bytes
 attributePool [] = []
 attributePool (a ∷ more) = a .name ++ (a .value ++ attributePool more)
@@ -52,13 +48,13 @@ poolOf (r ∷ rs) = rowPool r ++ poolOf rs
 unfoldable pub nodeLines : ℕ → List Row → Bytes
 nodeLines at [] = []
 nodeLines at (r ∷ rs) =
-    line (r .depth ∷ r .kind ∷ 0 ∷ at ∷ length (r .name) ∷ (at + length (r .name)) ∷ length (r .value) ∷ length (r .attributes) ∷ [])
+    line 8 (r .depth ∷ r .kind ∷ 0 ∷ at ∷ length (r .name) ∷ (at + length (r .name)) ∷ length (r .value) ∷ length (r .attributes) ∷ [])
     ++ nodeLines (at + length (rowPool r)) rs
 
 unfoldable pub linesOf : ℕ → List Attr → Bytes
 linesOf at [] = []
 linesOf at (a ∷ more) =
-    line (at ∷ length (a .name) ∷ (at + length (a .name)) ∷ length (a .value) ∷ []) ++ linesOf (at + length (a .name) + length (a .value)) more
+    line 8 (at ∷ length (a .name) ∷ (at + length (a .name)) ∷ length (a .value) ∷ []) ++ linesOf (at + length (a .name) + length (a .value)) more
 
 unfoldable pub attributeLines : ℕ → List Row → Bytes
 attributeLines at [] = []
@@ -70,7 +66,7 @@ attributeCount (r ∷ rs) = length (r .attributes) + attributeCount rs
 
 unfoldable pub sheetOf : List Row → Bytes
 sheetOf rows =
-    line (length rows ∷ attributeCount rows ∷ length (poolOf rows) ∷ 0 ∷ []) ++ (nodeLines 0 rows ++ (attributeLines 0 rows ++ poolOf rows))
+    line 8 (length rows ∷ attributeCount rows ∷ length (poolOf rows) ∷ 0 ∷ []) ++ (nodeLines 0 rows ++ (attributeLines 0 rows ++ poolOf rows))
 
 -- ---- options
 
