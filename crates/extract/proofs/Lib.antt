@@ -1,1 +1,2 @@
 pub mod ConcludeLaws
+pub mod ExtractLaws

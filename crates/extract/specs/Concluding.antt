@@ -1,9 +1,13 @@
 -- What the passes of an extraction conclude from a run of `serialize`: the answer and both buffers.
 use mathlib.Core.Path.{_≡_}
+use mathlib.Core.Bool.{Bool, cond}
 use Prim.Native.Nat.{ℕ}
 use lib.ListN.{length}
 use Rattle.common.specs.Bytes.{Bytes}
-use Rattle.html2text.specs.Extract.{Run, concluded, outThen, workThen}
+use Rattle.options.specs.declared.ExtractOptions.{ExtractOptions}
+use Rattle.tree.specs.Page.{Page}
+use Rattle.html2text.specs.Extract.{Run, going, longestNames, concluded, outThen, workThen, extraction, outAfter, workAfter}
+use Rattle.html2text.specs.Serialize.{State}
 use Rattle.html2text.specs.declared.Extraction.{Extraction}
 
 -- `out` and `work` as they were, `out′` and `work′` as they are then
@@ -11,3 +15,18 @@ pub record Concludes (need passes : ℕ) (R : Run) (out work : Bytes) (r : Extra
   pub answer : r ≡ concluded need passes R (length out) (length work)
   pub out-is : out′ ≡ outThen need passes R out work
   pub work-is : work′ ≡ workThen need passes R work
+
+-- no entry is refused
+pub record GoesOn (R : Run) : Type 0 where
+  pub state : State
+  pub goes-on : R ≡ going state
+
+-- what `work` must hold beside the entries' texts
+abbrev pub namesNeed : Page → ExtractOptions → ℕ
+namesNeed p o = cond (o .«main_content») (longestNames (p .node) (length (p .depths))) 0
+
+-- the same of a page, where `filtered` says which rows are filtered out
+pub record Extracts (filtered : ℕ → Bool) (p : Page) (o : ExtractOptions) (out work : Bytes) (r : Extraction) (out′ work′ : Bytes) : Type 0 where
+  pub answer : r ≡ extraction filtered p o (length out) (length work)
+  pub out-is : out′ ≡ outAfter filtered p o out work
+  pub work-is : work′ ≡ workAfter filtered p o work
