@@ -4,3 +4,4 @@ pub mod Filters
 pub mod Footer
 pub mod Gathered
 pub mod Icon
+pub mod Sheet
