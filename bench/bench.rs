@@ -1,5 +1,5 @@
 //! Times the Rust (html2text.rs and filters.rs, unchanged, its tree already built) and the reader (sheet and all, through the C
-//! function of oracle/driver.c) on the same pages, run after run in turns, and prints the medians in one table.
+//! functions of oracle/driver.c, with the sheet's validation and without it) on the same pages, run after run in turns, and prints the medians in one table.
 //! bench [CASES]: with a file of cases, those too, all of one option line together.
 use oracle::cases;
 use oracle::extract::html2text::extract_plain_text;
@@ -17,6 +17,7 @@ struct Answer {
 }
 
 unsafe extern "C" {
+    fn reader_check(sheet: *const u8, len: usize) -> u64;
     fn reader_answer(options: *const u8, sheet: *const u8, len: usize, out: *mut u8, out_len: usize, work: *mut u8, work_len: usize) -> Answer;
 }
 
@@ -270,17 +271,25 @@ fn measure(name: &str, pages: Vec<Page>) {
             std::hint::black_box(reader(p, out, work).length);
         }
     };
+    let mut by_check = || {
+        for p in &pages {
+            std::hint::black_box(unsafe { reader_check(p.sheet.as_ptr(), p.sheet.len()) });
+        }
+    };
     // about 20 ms a run
     let times = |ns: f64| ((20e6 / ns) as usize).max(1);
     let (rust_times, reader_times) = (times(timed(1, &mut by_rust)), times(timed(1, &mut by_reader)));
-    let (mut rust, mut ours) = (vec![], vec![]);
+    let check_times = times(timed(1, &mut by_check));
+    let (mut rust, mut ours, mut checks) = (vec![], vec![], vec![]);
     for _ in 0..11 {
         rust.push(timed(rust_times, &mut by_rust));
         ours.push(timed(reader_times, &mut by_reader));
+        checks.push(timed(check_times, &mut by_check));
     }
-    let (rust, ours) = (median(rust) / rows as f64, median(ours) / rows as f64);
+    let a_row = |times| median(times) / rows as f64;
+    let (rust, ours, check) = (a_row(rust), a_row(ours), a_row(checks));
     let bytes: usize = pages.iter().map(|p| p.sheet.len()).sum();
-    println!("{:34}{:8}{:10}{:12.1}{:12.1}{:9.2}", name, rows, bytes, rust, ours, ours / rust);
+    println!("{:34}{:8}{:10}{:10.1}{:10.1}{:10.1}{:8.2}{:8.2}", name, rows, bytes, rust, ours, ours - check, ours / rust, (ours - check) / rust);
 }
 
 fn one(options: &str, sheet: Vec<u8>) -> Vec<Page> {
@@ -290,8 +299,9 @@ fn one(options: &str, sheet: Vec<u8>) -> Vec<Page> {
 
 fn main() {
     let reader = std::env::var("READER").unwrap_or("reader".into());
-    println!("{:34}{:>8}{:>10}{:>12}{:>12}{:>9}", "page", "rows", "bytes", "Rust", reader, "ratio");
-    println!("{:52}{:>12}{:>12}", "", "ns a row", "ns a row");
+    // "bare": without the sheet's validation, whose time is taken by itself
+    println!("{:34}{:>8}{:>10}{:>10}{:>10}{:>10}{:>8}{:>8}", "page", "rows", "bytes", "Rust", reader, "bare", "ratio", "bare");
+    println!("{:52}{:>10}{:>10}{:>10}", "", "ns a row", "ns a row", "ns a row");
     let standing = "1011001100";
     let main_content = "1111001100";
     let html = "2011001100";

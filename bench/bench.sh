@@ -2,20 +2,20 @@
 # The times of the Rust and of the reader on the same pages, in one table.
 # Use: bench/bench.sh FOLDER-OF-html2text.rs-AND-filters.rs [REAL-PAGES]
 # REAL-PAGES: so many pages of Debian's documentation packages too (oracle/pages.py; Debian's own python3 has html5lib).
-# The reader is target/staticlib/libreader.a (rt staticlib reader); READER=stand-in takes the Rust behind the same C function.
+# The reader is target/staticlib/liblevzhada.a (rt staticlib levzhada); READER=stand-in takes the Rust behind the same C function.
 set -eu
 sources=$(realpath "$1")
 cd "$(dirname "$0")/.."
 oracle/build.sh "$sources"
 made=$PWD/target/oracle
-reader=$PWD/target/staticlib/libreader.a
+reader=$PWD/target/staticlib/liblevzhada.a
 flags=-DNO_MAIN
 if [ "${READER:-reader}" = stand-in ]; then
     flags="$flags -DSTAND_IN"
     reader=
 fi
 if [ -n "$reader" ] && [ ! -f "$reader" ]; then
-    echo "no $reader: rt staticlib reader, or READER=stand-in" >&2
+    echo "no $reader: rt staticlib levzhada, or READER=stand-in" >&2
     exit 1
 fi
 cc -O2 -Wall $flags -c -o "$made/reader.o" oracle/driver.c
