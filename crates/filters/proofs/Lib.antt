@@ -5,5 +5,6 @@ pub mod FooterLaws
 pub mod IconLaws
 pub mod NameLaws
 pub mod RowLaws
+pub mod StageLaws
 pub mod TestLaws
 pub mod ValueLaws

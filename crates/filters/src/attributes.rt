@@ -5,10 +5,10 @@ use sheet::read::part;
 ghost use mathlib.Core.Bool.{cond};
 ghost use mathlib.Core.Path.{_≡_};
 ghost use Prim.Native.Nat.{_+_, _≤_, _<_};
-ghost use lib.ListN.{length, replicate};
+ghost use lib.ListN.{getD, length, replicate};
 ghost use Rattle.common.specs.Bytes.{same};
 ghost use Rattle.sheet.specs.Accepted.{Accepted};
-ghost use Rattle.filters.specs.Gathered.{attributeNumber, slotValue, SlotInside, Slots};
+ghost use Rattle.filters.specs.Gathered.{Readable, attributeNumber, slotValue, SlotInside, Slots};
 
 // The number of a word that a name may be.
 fn number_if(name: &[u8], word: &[u8], number: usize) -> usize
@@ -81,4 +81,18 @@ pub fn value(s: &[u8], l: Layout, at: usize, len: usize) -> &[u8]
         return part(s, l, 0, 0);
     }
     part(s, l, at - 1, len)
+}
+
+// The value in slot k.
+pub fn held<'a, 'b, 'c>(
+    s: &'a [u8],
+    l: Layout,
+    starts: &'b [usize; 13],
+    lengths: &'c [usize; 13],
+    k: usize,
+) -> &'a [u8]
+    requires { ⌜ Accepted (now s) l × Readable l (now starts) (now lengths) × (k < 13) ⌝ }
+    ensures { λ r. ⌜ (now r ≡ slotValue (now (s .entry)) l (getD (now (starts .entry)) k 0) (getD (now (lengths .entry)) k 0)) × (length (now r) ≤ 4194304) ⌝ }
+{
+    value(s, l, starts[k], lengths[k])
 }

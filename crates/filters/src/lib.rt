@@ -4,5 +4,6 @@ pub mod classes;
 pub mod clusters;
 pub mod footer;
 pub mod icon;
+pub mod main_content;
 pub mod names;
 pub mod values;
