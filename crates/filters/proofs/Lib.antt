@@ -4,6 +4,7 @@ pub mod ExampleLaws
 pub mod FooterLaws
 pub mod IconLaws
 pub mod NameLaws
+pub mod PrivateUse
 pub mod RowLaws
 pub mod StageLaws
 pub mod TestLaws

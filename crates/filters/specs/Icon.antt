@@ -1,9 +1,11 @@
 -- Which text is an icon, by the option icons (document 01, "Options": "0 as the Rust (standing), 1 private").
+use mathlib.Core.Path.{_≡_}
 use mathlib.Core.Bool.{Bool, true, false, _&&_, _||_, cond}
-use mathlib.Core.List.{[], _∷_}
+use mathlib.Core.List.{List, [], _∷_}
 use Prim.Native.Nat.{ℕ, _+_, _*_}
-use lib.Dec.{leb}
+use lib.Dec.{eqb, leb}
 use Rattle.common.specs.Bytes.{Bytes, same}
+use Rattle.utf8.specs.Encoding.{Scalar, Scalars, encode, encodeAll}
 
 -- `text == "¶"`: U+00B6
 abbrev pub isPilcrow : Bytes → Bool
@@ -29,3 +31,10 @@ ofThree test (a ∷ b ∷ c ∷ d ∷ s) = false
 unfoldable pub isIcon : Bool → Bytes → Bool
 unfolding inLegacyRange inPrivateUse
 isIcon icons text = isPilcrow text || ofThree (cond icons inPrivateUse inLegacyRange) text
+
+-- what is to be shown of icons 1, over RFC 3629's encodings: "a text is then dropped as an icon if it trims to one character from U+E000 to
+-- U+F8FF, or to "¶", and by no three-byte rule"
+pub record IconsArePrivate : Type 0 where
+  pub none : isIcon true [] ≡ false
+  pub one : (c : ℕ) → Scalar c → isIcon true (encode c) ≡ ((leb 0xE000 c && leb c 0xF8FF) || eqb c 0xB6)
+  pub more : (c d : ℕ) (cs : List ℕ) → Scalars (c ∷ d ∷ cs) → isIcon true (encodeAll (c ∷ d ∷ cs)) ≡ false
