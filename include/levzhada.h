@@ -33,6 +33,13 @@ typedef struct {
     size_t at;              /* where the value starts in the pool; 0 where there is none */
 } levzhada_range;
 
+/* The link measure of an element. */
+typedef struct {
+    levzhada_answer answer; /* its second: the outcome, 0 no text, 1 too long, 2 no links, 3 a share */
+    size_t exceeds;         /* 1: the share exceeds the rule's ratio; 0: it does not, or there is none */
+    double share;           /* link bytes by text bytes; 0 where there is none */
+} levzhada_link_measure;
+
 /* What is wrong with a sheet: number 0 where nothing is, otherwise 11 to 17 with the line or the length at fault. */
 levzhada_answer levzhada_check(const uint8_t *sheet, size_t sheet_length);
 
@@ -52,6 +59,10 @@ levzhada_range levzhada_attribute(const uint8_t *sheet, size_t sheet_length, siz
 
 /* The length of a row's text content, runs of blanks collapsed. */
 levzhada_answer levzhada_text_length(const uint8_t *sheet, size_t sheet_length, size_t row);
+
+/* The link measure of a row by a rule, a ratio and a length limit (0: none); 35 also where the row is no element. The filters'
+ * own rules are (0.2, 0), (0.2, 500), (0.6, 800) and (0.6, 1500). */
+levzhada_link_measure levzhada_measure(const uint8_t *sheet, size_t sheet_length, size_t row, double ratio, size_t limit);
 
 /* Whether a text matches one of the 21 patterns, 0 to 20: second is 1 for yes and 0 for no. 36 with the number of a pattern
  * that is not there. */

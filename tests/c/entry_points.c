@@ -1,6 +1,7 @@
 /* The entry points for other languages, called from C: the answers on a small page. */
 #include "levzhada.h"
 
+#include <math.h>
 #include <stdio.h>
 #include <string.h>
 
@@ -95,6 +96,48 @@ static void attributes(void) {
     check("id of 6: present", r.present, 0);
 }
 
+/* <body>xx..<a>xx..</a></body>, of so many bytes of text and so many of them in the link */
+static size_t linked(char *to, int text, int link) {
+    int n = sprintf(to,
+                    "%8d%8d%8d%8d\n"
+                    "       0       1       0       0       4       0       0       0\n"
+                    "       1       3       0       0       0       5%8d       0\n"
+                    "       1       1       0       4       1       0       0       0\n"
+                    "       2       3       0       0       0       5%8d       0\n"
+                    "bodya",
+                    4, 0, 5 + text, 0, text - link, link);
+    memset(to + n, 'x', (size_t)text);
+    return (size_t)(n + text);
+}
+
+static void check_measure(int text, int link, double ratio, size_t limit, size_t outcome, size_t exceeds, double share) {
+    char made[4096], what[64];
+    levzhada_link_measure m = levzhada_measure(bytes(made), linked(made, text, link), 0, ratio, limit);
+    sprintf(what, "measure of %d, %d by %g, %zu", text, link, ratio, limit);
+    check_answer(what, m.answer, 0, outcome, 0, 0);
+    check(what, m.exceeds, exceeds);
+    check(what, m.share == share, 1);
+}
+
+static void measures(void) {
+    levzhada_link_measure m;
+    check_measure(100, 20, 0.2, 500, 3, 0, 20.0 / 100.0);
+    check_measure(100, 21, 0.2, 500, 3, 1, 21.0 / 100.0);
+    check_measure(500, 101, 0.2, 500, 3, 1, 101.0 / 500.0);
+    check_measure(501, 501, 0.2, 500, 1, 0, 0);
+    check_measure(501, 501, 0.2, 0, 3, 1, 1);
+    check_measure(800, 480, 0.6, 800, 3, 0, 480.0 / 800.0);
+    check_measure(1500, 901, 0.6, 1500, 3, 1, 901.0 / 1500.0);
+    check_measure(100, 0, 0.2, 0, 2, 0, 0);
+    check_measure(0, 0, 0.2, 0, 0, 0, 0);
+    check_measure(100, 100, NAN, 0, 3, 0, 1);
+    m = levzhada_measure(sheet, sheet_length, 2, 0.2, 0);
+    check_answer("measure of a text", m.answer, 35, 2, 0, 0);
+    check("measure of a text: share", m.share == 0, 1);
+    check_answer("measure of 6", levzhada_measure(sheet, sheet_length, 6, 0.2, 0).answer, 35, 6, 0, 0);
+    check_answer("measure in no sheet", levzhada_measure(sheet, 32, 6, 0.2, 0).answer, 11, 33, 0, 0);
+}
+
 static void patterns(void) {
     check_answer("pattern 15, ad", levzhada_matches(15, bytes("ad"), 2), 0, 1, 0, 0);
     check_answer("pattern 15, ad x", levzhada_matches(15, bytes("ad x"), 4), 0, 0, 0, 0);
@@ -119,8 +162,9 @@ int main(void) {
     verdicts();
     rows();
     attributes();
+    measures();
     patterns();
     texts();
-    printf("%d checks from C, %d failed\n", checks, failures);
+    printf("%d passed, %d failed\n", checks - failures, failures);
     return failures != 0;
 }

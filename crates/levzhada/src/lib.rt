@@ -1,8 +1,14 @@
 // The entry points for other languages: each answer in document 01's numbers. A slice is a pointer and a length.
 use common::Answer;
+use links::Measure;
+use links::Rule;
+use links::exceeds;
+use links::questions::MeasureAnswer;
+use links::questions::measure_of;
 use numbers::of_attribute;
 use numbers::of_length;
 use numbers::of_matched;
+use numbers::of_measure;
 use numbers::of_relative;
 use numbers::of_verdict;
 use numbers::of_written;
@@ -19,6 +25,7 @@ use tree::questions::parent_of;
 ghost use mathlib.Core.Path.{_≡_};
 ghost use lib.ListN.{length};
 ghost use Rattle.common.specs.Answer.{outAfter, writtenIn};
+ghost use Rattle.links.specs.Questions.{measureAnswerOf};
 ghost use Rattle.patterns.specs.Answers.{answerOf};
 ghost use Rattle.sheet.specs.Column.{parentOf};
 ghost use Rattle.sheet.specs.Verdict.{numbers, verdictOf};
@@ -27,7 +34,7 @@ ghost use Rattle.tree.specs.Attributes.{attributeOf};
 ghost use Rattle.tree.specs.Questions.{relativeNumbers};
 ghost use Rattle.tree.specs.Rows.{firstChildOf, nextSiblingOf};
 ghost use Rattle.tree.specs.TextLength.{lengthNumbers};
-ghost use Rattle.levzhada.specs.Answers.{rangeOf};
+ghost use Rattle.levzhada.specs.Answers.{linkMeasureOf, rangeOf, ruleOf, shareIn, yesIn};
 
 // An attribute's range in the pool: present is 1 where there is one, and its length is the answer's.
 #[repr(C)]
@@ -35,6 +42,14 @@ pub struct Range {
     pub answer: Answer,
     pub present: usize,
     pub at: usize,
+}
+
+// The link measure of a row: exceeds is 1 where the share exceeds the rule's ratio, and share is 0 where there is none.
+#[repr(C)]
+pub struct LinkMeasure {
+    pub answer: Answer,
+    pub exceeds: usize,
+    pub share: f64,
 }
 
 #[no_mangle]
@@ -95,6 +110,57 @@ pub extern "C" fn levzhada_text_length(sheet: &[u8], row: usize) -> Answer
     ensures { λ r. ⌜ r ≡ lengthNumbers (now (sheet .entry)) row ⌝ }
 {
     of_length(text_length_of(sheet, row))
+}
+
+fn share_in(m: Measure) -> f64
+    ensures { λ r. ⌜ r ≡ shareIn m ⌝ }
+{
+    match m {
+        Measure::NoText => 0.0,
+        Measure::TooLong => 0.0,
+        Measure::NoLinks => 0.0,
+        Measure::Share(share) => share,
+    }
+}
+
+fn yes_in(rule: Rule, m: Measure) -> usize
+    ensures { λ r. ⌜ r ≡ yesIn rule m ⌝ }
+{
+    if exceeds(rule, m) {
+        return 1;
+    }
+    0
+}
+
+fn link_measure_of(rule: Rule, a: MeasureAnswer) -> LinkMeasure
+    ensures { λ r. ⌜ r ≡ linkMeasureOf rule a ⌝ }
+{
+    let answer = of_measure(a);
+    let MeasureAnswer::Measured(m) = a else {
+        return LinkMeasure {
+            answer,
+            exceeds: 0,
+            share: 0.0,
+        };
+    };
+    LinkMeasure {
+        answer,
+        exceeds: yes_in(rule, m),
+        share: share_in(m),
+    }
+}
+
+#[no_mangle]
+pub extern "C" fn levzhada_measure(
+    sheet: &[u8],
+    row: usize,
+    ratio: f64,
+    limit: usize,
+) -> LinkMeasure
+    ensures { λ r. ⌜ r ≡ linkMeasureOf (ruleOf ratio limit) (measureAnswerOf (now (sheet .entry)) row (ruleOf ratio limit)) ⌝ }
+{
+    let rule = Rule { ratio, limit };
+    link_measure_of(rule, measure_of(sheet, row, rule))
 }
 
 #[no_mangle]

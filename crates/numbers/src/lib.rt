@@ -2,6 +2,8 @@
 use common::Answer;
 use common::Written;
 use html2text::Extraction;
+use links::Measure;
+use links::questions::MeasureAnswer;
 use options::line::OptionLine;
 use patterns::Matched;
 use sheet::verdict::Verdict;
@@ -11,6 +13,7 @@ use tree::questions::Relative;
 ghost use mathlib.Core.Path.{_≡_};
 ghost use Rattle.common.specs.Answer as common;
 ghost use Rattle.html2text.specs.Extract as html2text;
+ghost use Rattle.links.specs.Questions as measures;
 ghost use Rattle.options.specs.Line as line;
 ghost use Rattle.patterns.specs.Answers as patterns;
 ghost use Rattle.sheet.specs.Verdict as verdict;
@@ -93,6 +96,27 @@ pub fn of_length(r: LengthAnswer) -> Answer
         LengthAnswer::Length(n) => accepted(0, 0, n),
         LengthAnswer::NoRow(i) => refused(35, i),
         LengthAnswer::Refused(v) => of_verdict(v),
+    }
+}
+
+fn outcome(m: Measure) -> usize
+    ensures { λ r. ⌜ r ≡ measures.outcome m ⌝ }
+{
+    match m {
+        Measure::NoText => 0,
+        Measure::TooLong => 1,
+        Measure::NoLinks => 2,
+        Measure::Share(_) => 3,
+    }
+}
+
+pub fn of_measure(r: MeasureAnswer) -> Answer
+    ensures { λ a. ⌜ a ≡ measures.numbers r ⌝ }
+{
+    match r {
+        MeasureAnswer::Measured(m) => accepted(outcome(m), 0, 0),
+        MeasureAnswer::NoElement(i) => refused(35, i),
+        MeasureAnswer::Refused(v) => of_verdict(v),
     }
 }
 
