@@ -1,8 +1,11 @@
 -- What is noted of the rows, row by row; the column of depths that is noted is the sheet's.
 use mathlib.Core.Path.{_≡_, refl, sym, ap, _∙_}
+use mathlib.Core.Bool.{Bool, false, _||_}
 use mathlib.Core.List.{List, []}
+use mathlib.Core.Logic.{_⊎_, ⊎-elim}
 use Prim.Native.Nat.{ℕ, suc, _+_, _≤_, _<_}
 use native.Mathlib.Omega.{arith}
+use lib.Dec.{eqb}
 use lib.ListN.{length, getD, set, take, length-set}
 use lib.Seq.{getD-set-same, getD-set-other, getD-take, length-take-le, ext-getD}
 use borrow.Author.Count.{below-more}
@@ -16,25 +19,30 @@ use Rattle.sheet.proofs.LayoutLaws.{depths-at, depths-from-length}
 use Rattle.tags.specs.Tags.{tagNames, tagOf}
 use Rattle.tags.specs.Words.{words, firstWord, otherWords, numberFrom}
 use Rattle.tree.specs.Node.{tag}
-use Rattle.tree.specs.Page.{nodeAt}
+use Rattle.tree.specs.Page.{kindOf, nodeAt, pageOf}
 use Rattle.tree.proofs.AttributeLines.{counts-next, counts-none}
 use Rattle.tree.proofs.Column.{depth-small}
 use Rattle.tree.proofs.NodeLaws.{tag-of-element, tag-of-other}
-use Rattle.tree.proofs.PageLaws.{is-element, not-element, name-is}
+use Rattle.tree.proofs.PageLaws.{row-kind, is-element, not-element, name-is}
 use Rattle.tree.proofs.SheetColumn.{well-formed}
+use Rattle.html2text.specs.Walk.{isComment, leftOut}
 use Rattle.walk.specs.Rows.{Columns, RowsRead}
 use Rattle.walk.specs.Turns.{ColumnRight}
 
 -- a store behind the first i keeps them, and is the next
-noted : {F : ℕ → ℕ} (l : List ℕ) (i x : ℕ) → i < length l → x ≡ F i → ((k : ℕ) → k < i → getD l k 0 ≡ F k) → (k : ℕ) → k < i + 1 → getD (set l i x) k 0 ≡ F k
-noted {F} l i x h e all =
-    below-more (λ k. getD (set l i x) k 0 ≡ F k) i (λ k g. getD-set-other l i k x 0 (omega arith) ∙ all k g) (getD-set-same l i x 0 h ∙ e)
+noted : {A : Type 0} (d : A) {F : ℕ → A} (l : List A) (i : ℕ) (x : A) → i < length l → x ≡ F i → ((k : ℕ) → k < i → getD l k d ≡ F k) → (k : ℕ) → k < i + 1 → getD (set l i x) k d ≡ F k
+noted d {F} l i x h e all =
+    below-more (λ k. getD (set l i x) k d ≡ F k) i (λ k g. getD-set-other l i k x d (omega arith) ∙ all k g) (getD-set-same l i x d h ∙ e)
 
 -- ---- by the numbers of a row
 
 no-name : tagOf [] ≡ 0
 unfolding tagOf tagNames numberFrom words firstWord otherWords codes same
 no-name = refl
+
+comment-is : (k : ℕ) → (k ≡ 1) ⊎ ((k ≡ 3) ⊎ (k ≡ 8)) → isComment (kindOf k) ≡ eqb k 8
+unfolding kindOf
+comment-is k listed = ⊎-elim (λ e. rw e) (λ m. ⊎-elim (λ e. rw e) (λ e. rw e) m) listed
 
 module _ (s : Bytes) (l : Layout) (i : ℕ) {r : Row} (r-is : r ≡ rowAt s l i) where
   pub element-tag : {t : ℕ} {name : Bytes} → t ≡ tagOf name → r .kind ≡ 1 → name ≡ range s l (r .«name_at») (r .«name_len») → t ≡ tagOf (tag (nodeAt s l i))
@@ -43,12 +51,15 @@ module _ (s : Bytes) (l : Layout) (i : ℕ) {r : Row} (r-is : r ≡ rowAt s l i)
   pub other-tag : (r .kind ≡ 1 → ⊥) → 0 ≡ tagOf (tag (nodeAt s l i))
   other-tag n = sym (ap tagOf (tag-of-other (nodeAt s l i) (not-element s l i r-is n)) ∙ no-name)
 
+  pub left-read : {b : Bool} → Accepted s l → i < l .nodes → b ≡ (eqb (r .kind) 8 || eqb (r .skip) 1) → b ≡ leftOut (nodeAt s l) (pageOf s l .marked) i
+  left-read a h b-is = b-is ∙ rw (row-kind s l i r-is, r-is, comment-is (rowAt s l i .kind) (a .kind i h .listed))
+
   pub depth-read : Accepted s l → i < l .nodes → r .depth ≤ 500
   depth-read a h = rw r-is (depth-small s l a i h)
 
 module _ (s : Bytes) (l : Layout) where
-  module _ {ds ts fs vs ls : List ℕ} where
-    pub no-rows : RowsRead s l 0 ds ts fs vs ls
+  module _ {ds ts fs vs ls : List ℕ} {bs : List Bool} where
+    pub no-rows : RowsRead s l 0 ds ts fs vs ls bs
     no-rows =
         record {
           depth = λ i h. absurd (omega arith);
@@ -56,24 +67,26 @@ module _ (s : Bytes) (l : Layout) where
           first = λ i h. absurd (omega arith);
           value-at = λ i h. absurd (omega arith);
           value-len = λ i h. absurd (omega arith);
+          left-is = λ i h. absurd (omega arith);
         }
 
-    pub row-more : {i t first : ℕ} {r : Row} → RowsRead s l i ds ts fs vs ls → Columns (suc i) ds ts fs vs ls → r ≡ rowAt s l i → t ≡ tagOf (tag (nodeAt s l i)) → first ≡ countsFrom s l 0 i
-        → RowsRead s l (i + 1) (set ds i (r .depth)) (set ts i t) (set fs i first) (set vs i (r .«value_at»)) (set ls i (r .«value_len»))
-    row-more {i} {t} {first} {r} read room r-is t-is f-is =
+    pub row-more : {i t first : ℕ} {b : Bool} {r : Row} → RowsRead s l i ds ts fs vs ls bs → Columns (suc i) ds ts fs vs ls bs → r ≡ rowAt s l i → t ≡ tagOf (tag (nodeAt s l i)) → first ≡ countsFrom s l 0 i → b ≡ leftOut (nodeAt s l) (pageOf s l .marked) i
+        → RowsRead s l (i + 1) (set ds i (r .depth)) (set ts i t) (set fs i first) (set vs i (r .«value_at»)) (set ls i (r .«value_len»)) (set bs i b)
+    row-more {i} {t} {first} {b} {r} read room r-is t-is f-is b-is =
         record {
-          depth = noted ds i (r .depth) (omega (arith, room .depths-long)) (ap (λ (x : Row). x .depth) r-is) (read .depth);
-          tag-number = noted ts i t (omega (arith, room .tags-long)) t-is (read .tag-number);
-          first = noted fs i first (omega (arith, room .attributes-long)) f-is (read .first);
-          value-at = noted vs i (r .«value_at») (omega (arith, room .values-long)) (ap (λ (x : Row). x .«value_at») r-is) (read .value-at);
-          value-len = noted ls i (r .«value_len») (omega (arith, room .lengths-long)) (ap (λ (x : Row). x .«value_len») r-is) (read .value-len);
+          depth = noted 0 ds i (r .depth) (omega (arith, room .depths-long)) (ap (λ (x : Row). x .depth) r-is) (read .depth);
+          tag-number = noted 0 ts i t (omega (arith, room .tags-long)) t-is (read .tag-number);
+          first = noted 0 fs i first (omega (arith, room .attributes-long)) f-is (read .first);
+          value-at = noted 0 vs i (r .«value_at») (omega (arith, room .values-long)) (ap (λ (x : Row). x .«value_at») r-is) (read .value-at);
+          value-len = noted 0 ls i (r .«value_len») (omega (arith, room .lengths-long)) (ap (λ (x : Row). x .«value_len») r-is) (read .value-len);
+          left-is = noted false bs i b (omega (arith, room .left-long)) b-is (read .left-is);
         }
 
-    pub read-all : {i n : ℕ} → RowsRead s l i ds ts fs vs ls → i ≡ n → RowsRead s l n ds ts fs vs ls
+    pub read-all : {i n : ℕ} → RowsRead s l i ds ts fs vs ls bs → i ≡ n → RowsRead s l n ds ts fs vs ls bs
     read-all read e = rw e at read
 
     -- the column, in the first rows of a longer list
-    pub column-is : RowsRead s l (l .nodes) ds ts fs vs ls → l .nodes ≤ length ds → take (l .nodes) ds ≡ depths s l
+    pub column-is : RowsRead s l (l .nodes) ds ts fs vs ls bs → l .nodes ≤ length ds → take (l .nodes) ds ≡ depths s l
     column-is read h =
         let n = length-take-le (l .nodes) ds h in
         ext-getD 0 (take (l .nodes) ds) (depths s l) (n ∙ sym (depths-from-length s l 0 (l .nodes)))
@@ -81,18 +94,19 @@ module _ (s : Bytes) (l : Layout) where
 
 -- ---- row by row
 
-pub record Reading (s : Bytes) (l : Layout) (ds₀ ts₀ fs₀ vs₀ ls₀ ds ts fs vs ls : List ℕ) (first i : ℕ) : Type 0 where
+pub record Reading (s : Bytes) (l : Layout) (ds₀ ts₀ fs₀ vs₀ ls₀ : List ℕ) (bs₀ : List Bool) (ds ts fs vs ls : List ℕ) (bs : List Bool) (first i : ℕ) : Type 0 where
   pub inside : i ≤ l .nodes
   pub first-is : first ≡ countsFrom s l 0 i
-  pub read : RowsRead s l i ds ts fs vs ls
+  pub read : RowsRead s l i ds ts fs vs ls bs
   pub depths-same : length ds ≡ length ds₀
   pub tags-same : length ts ≡ length ts₀
   pub attributes-same : length fs ≡ length fs₀
   pub values-same : length vs ≡ length vs₀
   pub lengths-same : length ls ≡ length ls₀
+  pub left-same : length bs ≡ length bs₀
 
-pub reading-start : (s : Bytes) (l : Layout) (ds ts fs vs ls : List ℕ) → Reading s l ds ts fs vs ls ds ts fs vs ls 0 0
-reading-start s l ds ts fs vs ls =
+pub reading-start : (s : Bytes) (l : Layout) (ds ts fs vs ls : List ℕ) (bs : List Bool) → Reading s l ds ts fs vs ls bs ds ts fs vs ls bs 0 0
+reading-start s l ds ts fs vs ls bs =
     record {
       inside = omega arith;
       first-is = sym (counts-none s l);
@@ -102,10 +116,11 @@ reading-start s l ds ts fs vs ls =
       attributes-same = refl;
       values-same = refl;
       lengths-same = refl;
+      left-same = refl;
     }
 
-module _ {s : Bytes} {l : Layout} {ds₀ ts₀ fs₀ vs₀ ls₀ ds ts fs vs ls : List ℕ} {first i : ℕ} where
-  pub room-at : Reading s l ds₀ ts₀ fs₀ vs₀ ls₀ ds ts fs vs ls first i → Columns (l .nodes) ds₀ ts₀ fs₀ vs₀ ls₀ → i < l .nodes → Columns (suc i) ds ts fs vs ls
+module _ {s : Bytes} {l : Layout} {ds₀ ts₀ fs₀ vs₀ ls₀ ds ts fs vs ls : List ℕ} {bs₀ bs : List Bool} {first i : ℕ} where
+  pub room-at : Reading s l ds₀ ts₀ fs₀ vs₀ ls₀ bs₀ ds ts fs vs ls bs first i → Columns (l .nodes) ds₀ ts₀ fs₀ vs₀ ls₀ bs₀ → i < l .nodes → Columns (suc i) ds ts fs vs ls bs
   room-at g room h =
       record {
         depths-long = omega (arith, g .depths-same, room .depths-long);
@@ -113,20 +128,22 @@ module _ {s : Bytes} {l : Layout} {ds₀ ts₀ fs₀ vs₀ ls₀ ds ts fs vs ls 
         attributes-long = omega (arith, g .attributes-same, room .attributes-long);
         values-long = omega (arith, g .values-same, room .values-long);
         lengths-long = omega (arith, g .lengths-same, room .lengths-long);
+        left-long = omega (arith, g .left-same, room .left-long);
       }
 
-  pub reading-more : {t : ℕ} {r : Row} → Reading s l ds₀ ts₀ fs₀ vs₀ ls₀ ds ts fs vs ls first i → Columns (l .nodes) ds₀ ts₀ fs₀ vs₀ ls₀ → i < l .nodes → r ≡ rowAt s l i → t ≡ tagOf (tag (nodeAt s l i))
-      → Reading s l ds₀ ts₀ fs₀ vs₀ ls₀ (set ds i (r .depth)) (set ts i t) (set fs i first) (set vs i (r .«value_at»)) (set ls i (r .«value_len»)) (first + r .attributes) (i + 1)
-  reading-more {t} {r} g room h r-is t-is =
+  pub reading-more : {t : ℕ} {b : Bool} {r : Row} → Reading s l ds₀ ts₀ fs₀ vs₀ ls₀ bs₀ ds ts fs vs ls bs first i → Columns (l .nodes) ds₀ ts₀ fs₀ vs₀ ls₀ bs₀ → i < l .nodes → r ≡ rowAt s l i → t ≡ tagOf (tag (nodeAt s l i)) → b ≡ leftOut (nodeAt s l) (pageOf s l .marked) i
+      → Reading s l ds₀ ts₀ fs₀ vs₀ ls₀ bs₀ (set ds i (r .depth)) (set ts i t) (set fs i first) (set vs i (r .«value_at»)) (set ls i (r .«value_len»)) (set bs i b) (first + r .attributes) (i + 1)
+  reading-more {t} {b} {r} g room h r-is t-is b-is =
       record {
         inside = omega arith;
         first-is = omega (arith, g .first-is, counts-next s l i r-is);
-        read = row-more s l (g .read) (room-at g room h) r-is t-is (g .first-is);
+        read = row-more s l (g .read) (room-at g room h) r-is t-is (g .first-is) b-is;
         depths-same = simp length-set (g .depths-same);
         tags-same = simp length-set (g .tags-same);
         attributes-same = simp length-set (g .attributes-same);
         values-same = simp length-set (g .values-same);
         lengths-same = simp length-set (g .lengths-same);
+        left-same = simp length-set (g .left-same);
       }
 
 -- the column of an accepted sheet, for a stack of 501 rows or more

@@ -3,8 +3,10 @@ use sheet::line::Layout;
 use sheet::line::Row;
 use sheet::read::part;
 use sheet::read::row_at;
+ghost use mathlib.Core.Bool.{_||_};
 ghost use mathlib.Core.Path.{_≡_};
 ghost use Prim.Native.Nat.{_≤_, _<_};
+ghost use lib.Dec.{eqb};
 ghost use lib.ListN.{length};
 ghost use Rattle.sheet.specs.Accepted.{Accepted};
 ghost use Rattle.sheet.specs.Layout.{rowAt};
@@ -24,7 +26,18 @@ fn tag_at(s: &[u8], l: Layout, i: usize, r: Row) -> u8
     0
 }
 
-// Of each row its depth, the number of its tag, its first attribute line, and where its value lies in the pool.
+// Whether a row is a comment or marked.
+fn comment_or_marked(r: Row) -> bool
+    ensures { λ b. ⌜ b ≡ (eqb (r .kind) 8 || eqb (r .skip) 1) ⌝ }
+{
+    if r.kind == 8 {
+        return true;
+    }
+    r.skip == 1
+}
+
+// Of each row its depth, the number of its tag, its first attribute line, where its value lies in the pool, and whether it is a comment or
+// marked.
 pub fn read_rows(
     s: &[u8],
     l: Layout,
@@ -33,10 +46,11 @@ pub fn read_rows(
     attributes: &mut [u32],
     values: &mut [u32],
     lengths: &mut [u32],
+    left: &mut [bool],
 )
     requires { ⌜ Accepted (now s) l ⌝ }
-    requires { ⌜ Columns (l .nodes) (now depths) (now tags) (now attributes) (now values) (now lengths) ⌝ }
-    ensures { λ r. ⌜ RowsRead (now (s .entry)) l (l .nodes) (now (depths .exit)) (now (tags .exit)) (now (attributes .exit)) (now (values .exit)) (now (lengths .exit)) ⌝ }
+    requires { ⌜ Columns (l .nodes) (now depths) (now tags) (now attributes) (now values) (now lengths) (now left) ⌝ }
+    ensures { λ r. ⌜ RowsRead (now (s .entry)) l (l .nodes) (now (depths .exit)) (now (tags .exit)) (now (attributes .exit)) (now (values .exit)) (now (lengths .exit)) (now (left .exit)) ⌝ }
 {
     let nodes = l.nodes;
     let mut first = 0;
@@ -48,6 +62,7 @@ pub fn read_rows(
         attributes[i] = first as u32;
         values[i] = r.value_at as u32;
         lengths[i] = r.value_len as u32;
+        left[i] = comment_or_marked(r);
         first += r.attributes;
         i += 1;
     }
