@@ -1,5 +1,5 @@
 -- A list that is filled row by row, and passes over what stands below a row that is left out, is right at every row that is reached.
-use mathlib.Core.Path.{_≡_, refl, sym, ap, subst, _∙_}
+use mathlib.Core.Path.{_≡_, refl, sym, subst, _∙_}
 use mathlib.Core.Bool.{Bool, true, false}
 use mathlib.Core.List.{List}
 use Prim.Native.Nat.{ℕ, suc, _+_, _≤_, _<_}
@@ -8,8 +8,7 @@ use native.Mathlib.Numerals.{add-one}
 use lib.ListN.{length, getD, set, drop}
 use lib.Seq.{getD-set-same, getD-set-other}
 use Rattle.common.proofs.Choice.{absurd-test}
-use Rattle.tree.specs.Forest.{Forest, empty, node}
-use Rattle.tree.specs.Rows.{childrenOf, forestFrom, pastFrom}
+use Rattle.tree.specs.Rows.{forestFrom, pastFrom}
 use Rattle.tree.proofs.Order.{trichotomy}
 use Rattle.tree.proofs.PastLaws.{above-or-not, past-low}
 use Rattle.walk.specs.Turns.{Agree, flagged, treeAt}
@@ -35,9 +34,11 @@ module _ (depths : List ℕ) (leftOut : ℕ → Bool) where
     root-is : flagged stored root ≡ leftOut root
     root-is = getD-set-same left root (leftOut root) false h
 
-    pub root-left-out : leftOut root ≡ true → Agree (flagged stored) leftOut (treeAt depths root)
+    -- what is behind it needs no answer
+    pub root-left-out : (k : ℕ) → root < k → leftOut root ≡ true → Decided root k stored
     unfolding Agree
-    root-left-out e = (root-is, (λ f. absurd-test (root-is ∙ e) f), tt)
+    root-left-out k g e =
+        record { rest = λ more same from. let here = same root g ∙ root-is in (here, (λ f. absurd-test (here ∙ e) f), tt) }
 
     pub root-kept : leftOut root ≡ false → Decided root (root + 1) stored
     unfolding Agree

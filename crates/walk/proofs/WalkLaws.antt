@@ -4,12 +4,13 @@ use mathlib.Core.Bool.{Bool, true, false, cond}
 use mathlib.Core.List.{List, [], _∷_, _++_}
 use Prim.Native.Nat.{ℕ, suc, _+_, _-_, _*_, _≤_, _<_}
 use native.Mathlib.Omega.{arith}
-use lib.ListN.{length, length-append}
+use lib.ListN.{length, getD, drop, length-append, length-drop}
 use Rattle.common.proofs.Choice.{by-test}
 use Rattle.tree.specs.Forest.{Forest, empty, node, preorder}
 use Rattle.tree.specs.Node.{Node}
-use Rattle.tree.specs.Rows.{WellFormed, childrenOf, pastOf}
+use Rattle.tree.specs.Rows.{WellFormed, build, numbered, childrenOf, pastOf}
 use Rattle.tree.proofs.Descendants.{descendants, length-rows}
+use Rattle.tree.proofs.Order.{trichotomy, build-deeper, build-here, build-less}
 use Rattle.tree.proofs.PastLaws.{past-of-low, past-of-high}
 use Rattle.html2text.specs.Collect.{Event}
 use Rattle.html2text.specs.Serialize.{one}
@@ -111,6 +112,31 @@ module _ (nodeOf : ℕ → Node) (hidden : ℕ → Bool) where
   turns-of-walk d f = record { events-are = events-are d f; visits-are = visits-are d f }
 
 -- ---- rows that are not reached
+
+pub agree-sym : (left other : ℕ → Bool) (f : Forest ℕ) → Agree left other f → Agree other left f
+unfolding Agree
+agree-sym left other empty a = tt
+agree-sym left other (node i children rest) a = (sym (a .0), (λ e. agree-sym left other children (a .1 (a .0 ∙ e))), agree-sym left other rest (a .2))
+
+-- two that are alike at each of these rows agree on any tree of them
+agree-rows : (left other : ℕ → Bool) (l : List ℕ) (k d : ℕ) → ((j : ℕ) → k ≤ j → j < k + length l → left j ≡ other j) → Agree left other (build (numbered k l) d)
+unfolding Agree numbered build
+agree-rows left other [] k d h = tt
+agree-rows left other (x ∷ l) k d h =
+    let rows = numbered (suc k) l in
+    let behind : (e : ℕ) → Agree left other (build rows e) = λ e. agree-rows left other l (suc k) e (λ j g i. h j (omega arith) (omega arith)) in
+    trichotomy x d
+    (λ g. rw (build-deeper (x, k) rows d g) (behind d))
+    (λ e. rw (build-here (x, k) rows d e) (h k (omega arith) (omega arith), (λ f. behind (suc d)), behind d))
+    (λ g. rw (build-less (x, k) rows d g) tt)
+
+pub agree-tree : (depths : List ℕ) (root : ℕ) (left other : ℕ → Bool) → root < length depths → ((j : ℕ) → j < length depths → left j ≡ other j) → Agree left other (treeAt depths root)
+unfolding Agree
+agree-tree depths root left other h same = (
+  same root h,
+  (λ f. agree-rows left other (drop (suc root) depths) (suc root) (suc (getD depths root 0)) (λ j g i. same j (omega (arith, length-drop (suc root) depths)))),
+  tt,
+)
 
 pub agree-turns : (left other : ℕ → Bool) (d : ℕ) (f : Forest ℕ) → Agree left other f → turns left d f ≡ turns other d f
 unfolding turns Agree

@@ -37,7 +37,7 @@ pub enum Next {
 }
 
 // The first row from row from on that is not deeper than d, or the number of rows.
-fn skip(depths: &[u16], d: usize, from: usize) -> usize
+pub fn skip(depths: &[u16], d: usize, from: usize) -> usize
     ensures { λ r. ⌜ r ≡ pastFrom d from (drop from (now (depths .entry))) ⌝ }
 {
     let mut k = from;

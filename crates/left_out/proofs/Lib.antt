@@ -1,0 +1,2 @@
+pub mod DecidingLaws
+pub mod LeftOutLaws
