@@ -1,38 +1,7 @@
 /* The entry points for other languages, called from C: the answers on a small page. */
-#include "levzhada.h"
+#include "check.h"
 
 #include <math.h>
-#include <stdio.h>
-#include <string.h>
-
-static int checks, failures;
-
-static void check(const char *what, size_t got, size_t wanted) {
-    checks++;
-    if (got != wanted) {
-        failures++;
-        printf("%s: %zu, and not %zu\n", what, got, wanted);
-    }
-}
-
-static void check_answer(const char *what, levzhada_answer a, size_t number, size_t second, size_t visits, size_t length) {
-    checks++;
-    if (a.number != number || a.second != second || a.visits != visits || a.length != length) {
-        failures++;
-        printf("%s: %zu %zu %zu %zu, and not %zu %zu %zu %zu\n", what, a.number, a.second, a.visits, a.length, number, second,
-               visits, length);
-    }
-}
-
-static void check_bytes(const char *what, const uint8_t *got, const char *wanted, size_t length) {
-    checks++;
-    if (memcmp(got, wanted, length) != 0) {
-        failures++;
-        printf("%s: other bytes\n", what);
-    }
-}
-
-static const uint8_t *bytes(const char *s) { return (const uint8_t *)s; }
 
 /* <body class="c d"><p id="">a  b </p><!--x--><p>&amp;</p></body> */
 static const char page[] =
@@ -165,6 +134,5 @@ int main(void) {
     measures();
     patterns();
     texts();
-    printf("%d passed, %d failed\n", checks - failures, failures);
-    return failures != 0;
+    return close_checks();
 }

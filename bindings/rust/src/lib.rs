@@ -1,0 +1,281 @@
+//! Reads a web page's tree sheet: safe functions over `liblevzhada.a`.
+//!
+//! A sheet is the byte string that document 01, "The tree sheet and the text drawn from it", lays down; numbers in brackets below are
+//! its refusals. Every function comes back for every input. The answers are proved of the archive; the few lines here are tested.
+//!
+//! ```
+//! use levzhada::Refusal;
+//! let sheet = b"       1       0       4       0\n       0       1       0       0       4       0       0       0\nbody";
+//! assert_eq!(levzhada::check(sheet), Ok(()));
+//! assert_eq!(levzhada::parent(sheet, 1), Err(Refusal::Row(1)));
+//! ```
+
+use std::error::Error;
+use std::fmt;
+use std::ops::Range;
+
+/// The functions of include/levzhada.h.
+mod raw {
+    #[repr(C)]
+    #[derive(Clone, Copy)]
+    pub struct Answer {
+        pub number: usize,
+        pub second: usize,
+        pub visits: usize,
+        pub length: usize,
+    }
+
+    #[repr(C)]
+    pub struct Range {
+        pub answer: Answer,
+        pub present: usize,
+        pub at: usize,
+    }
+
+    #[repr(C)]
+    pub struct LinkMeasure {
+        pub answer: Answer,
+        pub exceeds: usize,
+        pub share: f64,
+    }
+
+    extern "C" {
+        pub fn levzhada_check(sheet: *const u8, sheet_length: usize) -> Answer;
+        pub fn levzhada_parent(sheet: *const u8, sheet_length: usize, row: usize) -> Answer;
+        pub fn levzhada_first_child(sheet: *const u8, sheet_length: usize, row: usize) -> Answer;
+        pub fn levzhada_next_sibling(sheet: *const u8, sheet_length: usize, row: usize) -> Answer;
+        pub fn levzhada_attribute(
+            sheet: *const u8,
+            sheet_length: usize,
+            row: usize,
+            name: *const u8,
+            name_length: usize,
+        ) -> Range;
+        pub fn levzhada_text_length(sheet: *const u8, sheet_length: usize, row: usize) -> Answer;
+        pub fn levzhada_measure(
+            sheet: *const u8,
+            sheet_length: usize,
+            row: usize,
+            ratio: f64,
+            limit: usize,
+        ) -> LinkMeasure;
+        pub fn levzhada_matches(pattern: usize, text: *const u8, text_length: usize) -> Answer;
+        pub fn levzhada_collapse(
+            text: *const u8,
+            text_length: usize,
+            out: *mut u8,
+            out_length: usize,
+        ) -> Answer;
+        pub fn levzhada_escape(
+            text: *const u8,
+            text_length: usize,
+            out: *mut u8,
+            out_length: usize,
+        ) -> Answer;
+    }
+}
+
+/// Why there is no answer: document 01's numbers, each with its second number. The header is line 0, row 0 line 1.
+///
+/// A buffer that is too short (31, 32) is no refusal here: it grows.
+#[derive(Clone, Copy, Debug, PartialEq, Eq)]
+pub enum Refusal {
+    /// 11: the sheet's length is not this one.
+    Length(usize),
+    /// 12: a field or the end of this line.
+    Format(usize),
+    /// 13: counts out of range, or a root that is no row.
+    Counts,
+    /// 14: the depth or the parent of this line, or the root (line 0).
+    Tree(usize),
+    /// 15: the kind of this line, or what such a kind may not have.
+    Kind(usize),
+    /// 16: a range of this line passes the pool, or the attribute counts do not sum up (line 0).
+    Range(usize),
+    /// 17: a range of this line is not UTF-8.
+    Encoding(usize),
+    /// 35: the sheet has no such row or, for the link measure, it is no element.
+    Row(usize),
+    /// 36: there is no such pattern.
+    Pattern(usize),
+}
+
+impl Refusal {
+    /// The number and the second number.
+    pub fn numbers(self) -> (usize, usize) {
+        match self {
+            Refusal::Length(n) => (11, n),
+            Refusal::Format(line) => (12, line),
+            Refusal::Counts => (13, 0),
+            Refusal::Tree(line) => (14, line),
+            Refusal::Kind(line) => (15, line),
+            Refusal::Range(line) => (16, line),
+            Refusal::Encoding(line) => (17, line),
+            Refusal::Row(row) => (35, row),
+            Refusal::Pattern(pattern) => (36, pattern),
+        }
+    }
+}
+
+impl fmt::Display for Refusal {
+    fn fmt(&self, f: &mut fmt::Formatter) -> fmt::Result {
+        let number = self.numbers().0;
+        match self {
+            Refusal::Length(n) => write!(f, "{number}: the sheet has not {n} bytes"),
+            Refusal::Format(line) => write!(f, "{number}: a field or the end of line {line}"),
+            Refusal::Counts => write!(f, "{number}: the counts or the root"),
+            Refusal::Tree(line) => write!(f, "{number}: the place of line {line} in the tree"),
+            Refusal::Kind(line) => write!(f, "{number}: the kind of line {line}"),
+            Refusal::Range(line) => write!(f, "{number}: a range of line {line}"),
+            Refusal::Encoding(line) => write!(f, "{number}: line {line} is not UTF-8"),
+            Refusal::Row(row) => write!(f, "{number}: row {row} is not there, or no element"),
+            Refusal::Pattern(pattern) => write!(f, "{number}: no pattern {pattern}"),
+        }
+    }
+}
+
+impl Error for Refusal {}
+
+/// The answer where it is accepted.
+fn accepted(a: raw::Answer) -> Result<raw::Answer, Refusal> {
+    Err(match (a.number, a.second) {
+        (0, _) => return Ok(a),
+        (11, n) => Refusal::Length(n),
+        (12, line) => Refusal::Format(line),
+        (13, _) => Refusal::Counts,
+        (14, line) => Refusal::Tree(line),
+        (15, line) => Refusal::Kind(line),
+        (16, line) => Refusal::Range(line),
+        (17, line) => Refusal::Encoding(line),
+        (35, row) => Refusal::Row(row),
+        (36, pattern) => Refusal::Pattern(pattern),
+        (number, second) => unreachable!("no call gives {number} {second}"),
+    })
+}
+
+/// What is wrong with a sheet (11 to 17).
+pub fn check(sheet: &[u8]) -> Result<(), Refusal> {
+    accepted(unsafe { raw::levzhada_check(sheet.as_ptr(), sheet.len()) }).map(|_| ())
+}
+
+fn relative(a: raw::Answer) -> Result<Option<usize>, Refusal> {
+    accepted(a).map(|a| (a.length == 1).then_some(a.second))
+}
+
+/// The parent of a row.
+pub fn parent(sheet: &[u8], row: usize) -> Result<Option<usize>, Refusal> {
+    relative(unsafe { raw::levzhada_parent(sheet.as_ptr(), sheet.len(), row) })
+}
+
+/// The first child of a row.
+pub fn first_child(sheet: &[u8], row: usize) -> Result<Option<usize>, Refusal> {
+    relative(unsafe { raw::levzhada_first_child(sheet.as_ptr(), sheet.len(), row) })
+}
+
+/// The next sibling of a row.
+pub fn next_sibling(sheet: &[u8], row: usize) -> Result<Option<usize>, Refusal> {
+    relative(unsafe { raw::levzhada_next_sibling(sheet.as_ptr(), sheet.len(), row) })
+}
+
+/// Where the value of a row's first attribute of that name lies in the pool; the value may be empty.
+pub fn attribute(sheet: &[u8], row: usize, name: &[u8]) -> Result<Option<Range<usize>>, Refusal> {
+    let r = unsafe {
+        raw::levzhada_attribute(sheet.as_ptr(), sheet.len(), row, name.as_ptr(), name.len())
+    };
+    accepted(r.answer).map(|a| (r.present == 1).then_some(r.at..r.at + a.length))
+}
+
+/// The length of a row's text content, runs of blanks collapsed.
+pub fn text_length(sheet: &[u8], row: usize) -> Result<usize, Refusal> {
+    accepted(unsafe { raw::levzhada_text_length(sheet.as_ptr(), sheet.len(), row) })
+        .map(|a| a.length)
+}
+
+/// A cluster rule: a ratio and a length limit; limit 0 is none.
+#[derive(Clone, Copy, Debug, PartialEq)]
+pub struct Rule {
+    pub ratio: f64,
+    pub limit: usize,
+}
+
+/// The rules of the filters.
+impl Rule {
+    pub const FIFTH_OF_ANY: Rule = Rule {
+        ratio: 0.2,
+        limit: 0,
+    };
+    pub const FIFTH_OF_500: Rule = Rule {
+        ratio: 0.2,
+        limit: 500,
+    };
+    pub const THREE_FIFTHS_OF_800: Rule = Rule {
+        ratio: 0.6,
+        limit: 800,
+    };
+    pub const THREE_FIFTHS_OF_1500: Rule = Rule {
+        ratio: 0.6,
+        limit: 1500,
+    };
+}
+
+/// The link measure of an element.
+#[derive(Clone, Copy, Debug, PartialEq)]
+pub enum Measure {
+    NoText,
+    TooLong,
+    NoLinks,
+    /// Link bytes by text bytes, and whether that exceeds the rule's ratio.
+    Share {
+        share: f64,
+        exceeds: bool,
+    },
+}
+
+/// The link measure of a row.
+pub fn measure(sheet: &[u8], row: usize, rule: Rule) -> Result<Measure, Refusal> {
+    let m =
+        unsafe { raw::levzhada_measure(sheet.as_ptr(), sheet.len(), row, rule.ratio, rule.limit) };
+    accepted(m.answer).map(|a| match a.second {
+        0 => Measure::NoText,
+        1 => Measure::TooLong,
+        2 => Measure::NoLinks,
+        _ => Measure::Share {
+            share: m.share,
+            exceeds: m.exceeds == 1,
+        },
+    })
+}
+
+/// Whether a text matches one of the patterns 0 to 20.
+pub fn matches(pattern: usize, text: &[u8]) -> Result<bool, Refusal> {
+    accepted(unsafe { raw::levzhada_matches(pattern, text.as_ptr(), text.len()) })
+        .map(|a| a.second == 1)
+}
+
+type Write = unsafe extern "C" fn(*const u8, usize, *mut u8, usize) -> raw::Answer;
+
+/// What a call writes of a text, the buffer grown to the need where it was too short.
+fn written(call: Write, text: &[u8]) -> Vec<u8> {
+    let mut out = vec![0; text.len()];
+    loop {
+        let a = unsafe { call(text.as_ptr(), text.len(), out.as_mut_ptr(), out.len()) };
+        match a.number {
+            0 => {
+                out.truncate(a.length);
+                return out;
+            }
+            32 => out.resize(a.second, 0),
+            number => unreachable!("no text gives {number}"),
+        }
+    }
+}
+
+/// Each run of blanks as one space.
+pub fn collapse(text: &[u8]) -> Vec<u8> {
+    written(raw::levzhada_collapse, text)
+}
+
+/// & < > and " as entities.
+pub fn escape(text: &[u8]) -> Vec<u8> {
+    written(raw::levzhada_escape, text)
+}

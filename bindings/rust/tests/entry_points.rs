@@ -1,0 +1,120 @@
+//! The answers on a small page, as tests/c/entry_points.c has them from C.
+
+use levzhada::{Measure, Refusal, Rule};
+
+/// `<body class="c d"><p id="">a  b </p><!--x--><p>&amp;</p></body>`
+const PAGE: &[u8] = b"       6       2      27       0
+       0       1       0       0       4       0       0       1
+       1       1       0       4       1       0       0       1
+       2       3       0       0       0       5       5       0
+       1       8       0       0       0      10       1       0
+       1       1       0       4       1       0       0       0
+       2       3       0       0       0      11       1       0
+      12       5      17       3
+      20       2      22       0
+bodypa  b x&classc didno !!";
+
+#[test]
+fn verdicts() {
+    assert_eq!(levzhada::check(PAGE), Ok(()));
+    assert_eq!(levzhada::check(b""), Err(Refusal::Length(33)));
+    assert_eq!(levzhada::check(&PAGE[1..]), Err(Refusal::Format(0)));
+    let damaged = |at: usize, byte: u8| {
+        let mut sheet = PAGE.to_vec();
+        sheet[at] = byte;
+        levzhada::check(&sheet).unwrap_err()
+    };
+    assert_eq!(damaged(31, b'6'), Refusal::Counts);
+    assert_eq!(damaged(33 + 65 + 7, b'2'), Refusal::Tree(2));
+    assert_eq!(damaged(33 + 15, b'2'), Refusal::Kind(1));
+    assert_eq!(damaged(33 + 2 * 65 + 46, b'9'), Refusal::Range(3));
+    assert_eq!(damaged(PAGE.len() - 14, 0xff), Refusal::Encoding(7));
+    assert_eq!(damaged(PAGE.len() - 14, 0xff).numbers(), (17, 7));
+}
+
+#[test]
+fn rows() {
+    assert_eq!(levzhada::parent(PAGE, 0), Ok(None));
+    assert_eq!(levzhada::parent(PAGE, 5), Ok(Some(4)));
+    assert_eq!(levzhada::parent(PAGE, 6), Err(Refusal::Row(6)));
+    assert_eq!(levzhada::first_child(PAGE, 0), Ok(Some(1)));
+    assert_eq!(levzhada::first_child(PAGE, 3), Ok(None));
+    assert_eq!(levzhada::next_sibling(PAGE, 1), Ok(Some(3)));
+    assert_eq!(levzhada::next_sibling(PAGE, 4), Ok(None));
+    assert_eq!(levzhada::next_sibling(b"", 4), Err(Refusal::Length(33)));
+    assert_eq!(levzhada::text_length(PAGE, 0), Ok(5));
+    assert_eq!(
+        levzhada::text_length(PAGE, 7).unwrap_err().to_string(),
+        "35: row 7 is not there, or no element"
+    );
+}
+
+#[test]
+fn attributes() {
+    assert_eq!(levzhada::attribute(PAGE, 0, b"class"), Ok(Some(17..20)));
+    assert_eq!(levzhada::attribute(PAGE, 1, b"id"), Ok(Some(22..22)));
+    assert_eq!(levzhada::attribute(PAGE, 1, b"class"), Ok(None));
+    assert_eq!(levzhada::attribute(PAGE, 1, b""), Ok(None));
+    assert_eq!(levzhada::attribute(PAGE, 6, b"id"), Err(Refusal::Row(6)));
+}
+
+/// `<body>xx..<a>xx..</a></body>`, of so many bytes of text and so many of them in the link.
+fn linked(text: usize, link: usize) -> Vec<u8> {
+    let lines = format!(
+        "{:8}{:8}{:8}{:8}
+       0       1       0       0       4       0       0       0
+       1       3       0       0       0       5{:8}       0
+       1       1       0       4       1       0       0       0
+       2       3       0       0       0       5{:8}       0
+bodya{}",
+        4,
+        0,
+        5 + text,
+        0,
+        text - link,
+        link,
+        "x".repeat(text)
+    );
+    lines.into_bytes()
+}
+
+#[test]
+fn measures() {
+    let measure = |text, link, rule| levzhada::measure(&linked(text, link), 0, rule).unwrap();
+    let share = |share, exceeds| Measure::Share { share, exceeds };
+    assert_eq!(measure(100, 20, Rule::FIFTH_OF_500), share(0.2, false));
+    assert_eq!(measure(100, 21, Rule::FIFTH_OF_500), share(0.21, true));
+    assert_eq!(measure(500, 101, Rule::FIFTH_OF_500), share(0.202, true));
+    assert_eq!(measure(501, 501, Rule::FIFTH_OF_500), Measure::TooLong);
+    assert_eq!(measure(501, 501, Rule::FIFTH_OF_ANY), share(1.0, true));
+    assert_eq!(
+        measure(800, 480, Rule::THREE_FIFTHS_OF_800),
+        share(0.6, false)
+    );
+    assert_eq!(
+        measure(1500, 901, Rule::THREE_FIFTHS_OF_1500),
+        share(901.0 / 1500.0, true)
+    );
+    assert_eq!(measure(100, 0, Rule::FIFTH_OF_ANY), Measure::NoLinks);
+    assert_eq!(measure(0, 0, Rule::FIFTH_OF_ANY), Measure::NoText);
+    assert_eq!(
+        levzhada::measure(PAGE, 2, Rule::FIFTH_OF_ANY),
+        Err(Refusal::Row(2))
+    );
+}
+
+#[test]
+fn patterns() {
+    assert_eq!(levzhada::matches(15, b"ad"), Ok(true));
+    assert_eq!(levzhada::matches(15, b"ad x"), Ok(false));
+    assert_eq!(levzhada::matches(0, b""), Ok(false));
+    assert_eq!(levzhada::matches(21, b"ad"), Err(Refusal::Pattern(21)));
+}
+
+#[test]
+fn texts() {
+    assert_eq!(levzhada::collapse(b" a \n\tb"), b" a b");
+    assert_eq!(levzhada::collapse(b""), b"");
+    assert_eq!(levzhada::escape(b"a<\"&"), b"a&lt;&quot;&amp;");
+    assert_eq!(levzhada::escape(b"ab"), b"ab");
+}
