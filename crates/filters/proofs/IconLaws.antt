@@ -34,9 +34,16 @@ module _ (icons : Bool) (s : Bytes) where
   unfolding isIcon
   icon-size e h = or-no _ e (sym (not-three (cond icons inPrivateUse inLegacyRange) s h))
 
-  pub icon-three : isPilcrow s ≡ false → length s ≡ 3 → {r : Bool} → r ≡ (cond icons inPrivateUse inLegacyRange) (getD s 0 0) (getD s 1 0) (getD s 2 0) → r ≡ isIcon icons s
-  unfolding isIcon
-  icon-three e h q = or-no _ e (q ∙ sym (three-bytes (cond icons inPrivateUse inLegacyRange) s h))
+  module _ (e : isPilcrow s ≡ false) (h : length s ≡ 3) where
+    icon-three : {r : Bool} → r ≡ (cond icons inPrivateUse inLegacyRange) (getD s 0 0) (getD s 1 0) (getD s 2 0) → r ≡ isIcon icons s
+    unfolding isIcon
+    icon-three q = or-no _ e (q ∙ sym (three-bytes (cond icons inPrivateUse inLegacyRange) s h))
+
+    pub icon-private : icons ≡ true → {r : Bool} → r ≡ inPrivateUse (getD s 0 0) (getD s 1 0) (getD s 2 0) → r ≡ isIcon icons s
+    icon-private i q = icon-three (q ∙ rw i)
+
+    pub icon-legacy : icons ≡ false → {r : Bool} → r ≡ inLegacyRange (getD s 0 0) (getD s 1 0) (getD s 2 0) → r ≡ isIcon icons s
+    icon-legacy i q = icon-three (q ∙ rw i)
 
 -- a code between two bounds
 module _ (low high n : ℕ) {code : ℕ} (e : code ≡ n) where

@@ -2,15 +2,13 @@
 use mathlib.Core.Path.{_≡_, refl, sym, ap, _∙_}
 use mathlib.Core.Bool.{Bool, true, false, _&&_, _||_, not, cond}
 use mathlib.Core.List.{List, [], _∷_}
-use Prim.Native.Nat.{ℕ, zero, suc, _≤_, _<_}
-use native.Mathlib.Omega.{arith}
+use Prim.Native.Nat.{ℕ}
 use lib.Dec.{leb, eqb, eqb·suc-zero}
-use lib.ListN.{getD, length, length-take}
+use lib.ListN.{getD, length}
 use Rattle.common.specs.Bytes.{Bytes}
 use Rattle.links.specs.Links.{threeFifthsOf800}
 use Rattle.links.specs.declared.Rule.{Rule}
 use Rattle.options.specs.declared.ExtractOptions.{ExtractOptions}
-use Rattle.sheet.specs.Accepted.{Accepted}
 use Rattle.sheet.specs.Layout.{rowAt, range, depths}
 use Rattle.sheet.specs.Verdict.{countsFrom}
 use Rattle.sheet.specs.declared.line.Layout.{Layout}
@@ -24,7 +22,7 @@ use Rattle.tree.specs.Page.{nodeAt}
 use Rattle.tree.proofs.NodeLaws.{tag-of-element}
 use Rattle.tree.proofs.PageLaws.{is-element, name-is, value-is}
 use Rattle.filters.specs.Filters.{isEmpty, hiddenByAttribute, notDisplayed, byClassAndId, byAttributes, byName, isMainContent}
-use Rattle.filters.specs.Gathered.{slotValue, SlotInside, Gathered}
+use Rattle.filters.specs.Gathered.{slotValue, Gathered}
 use Rattle.filters.specs.Icon.{isIcon}
 use Rattle.filters.proofs.RowLaws.{row-text, row-comment}
 use Rattle.filters.proofs.ValueLaws.{value-held}
@@ -32,11 +30,6 @@ use Rattle.filters.proofs.ValueLaws.{value-held}
 pub is-empty : (s : Bytes) → eqb (length s) 0 ≡ isEmpty s
 is-empty [] = refl
 is-empty (c ∷ s) = eqb·suc-zero (length s)
-
--- a value is at most the pool
-pub slot-short : (s : Bytes) (l : Layout) → Accepted s l → (at len : ℕ) → SlotInside l at len → {v : Bytes} → v ≡ slotValue s l at len → length v ≤ 4194304
-slot-short s l a zero len h e = rw e (omega arith)
-slot-short s l a (suc at) len h e = rw e (simp length-take (omega (arith, a .sized .pool)))
 
 -- the values in their slots are class, id and style
 module _ (o : ExtractOptions) (cluster : Rule → Bool) (depth : ℕ) (name : Bytes) {s : Bytes} {l : Layout} {attributes : List Attribute} {starts lengths : List ℕ} (g : Gathered s l attributes starts lengths)

@@ -3,22 +3,29 @@ use mathlib.Core.Path.{_≡_, refl, sym, ap, _∙_}
 use mathlib.Core.Bool.{Bool, true, false, not}
 use mathlib.Core.List.{List, []}
 use mathlib.Core.Option.{Option, none, some, Option·getD}
-use Prim.Native.Nat.{ℕ, zero, suc}
+use Prim.Native.Nat.{ℕ, zero, suc, _≤_}
+use native.Mathlib.Omega.{arith}
 use lib.Dec.{eqb, eqb·suc-zero}
-use lib.ListN.{getD}
+use lib.ListN.{getD, length, length-take}
 use borrow.Author.Tests.{eq-eqb, ne-eqb}
 use Rattle.common.specs.Bytes.{Bytes}
+use Rattle.sheet.specs.Accepted.{Accepted}
 use Rattle.sheet.specs.declared.line.Layout.{Layout}
 use Rattle.tags.specs.Words.{oneOf}
 use Rattle.text.specs.Text.{trim, trimBy, trimStartBy, rstripBy}
 use Rattle.tree.specs.Attributes.{valueIn}
 use Rattle.filters.specs.Filters.{isThere}
-use Rattle.filters.specs.Gathered.{slot, slotValue}
+use Rattle.filters.specs.Gathered.{slot, slotValue, SlotInside}
 
 module _ (s : Bytes) (l : Layout) where
   pub absent-among : {at : ℕ} (len : ℕ) (ws : List Bytes) → at ≡ 0 → oneOf [] ws ≡ false → false ≡ oneOf (trim (slotValue s l at len)) ws
   unfolding trimBy trimStartBy rstripBy
   absent-among len ws h e = rw h (sym e)
+
+-- a value is at most the pool
+pub slot-short : (s : Bytes) (l : Layout) → Accepted s l → (at len : ℕ) → SlotInside l at len → {v : Bytes} → v ≡ slotValue s l at len → length v ≤ 4194304
+slot-short s l a zero len h e = rw e (omega arith)
+slot-short s l a (suc at) len h e = rw e (simp length-take (omega (arith, a .sized .pool)))
 
 there : (s : Bytes) (l : Layout) (at len : ℕ) → not (eqb at 0) ≡ isThere (valueIn s l (slot at len))
 there s l zero len = refl

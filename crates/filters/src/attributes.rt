@@ -8,7 +8,7 @@ ghost use Prim.Native.Nat.{_+_, _≤_, _<_};
 ghost use lib.ListN.{getD, length, replicate};
 ghost use Rattle.common.specs.Bytes.{same};
 ghost use Rattle.sheet.specs.Accepted.{Accepted};
-ghost use Rattle.filters.specs.Gathered.{Readable, attributeNumber, slotValue, SlotInside, Slots};
+ghost use Rattle.filters.specs.Gathered.{attributeNumber, Readable, slotValue, SlotInside, Slots};
 
 // The number of a word that a name may be.
 fn number_if(name: &[u8], word: &[u8], number: usize) -> usize

@@ -48,6 +48,16 @@ pub fn ul_cluster(s: &[u8], l: Layout, i: usize, tag: u8, depth: usize) -> bool
     near_or_cluster(s, l, i, depth, 4)
 }
 
+fn deep_cluster(s: &[u8], l: Layout, i: usize, depth: usize, rule: Rule) -> bool
+    requires { ⌜ Accepted (now s) l × (i < l .nodes) ⌝ }
+    ensures { λ r. ⌜ r ≡ (ltb 2 depth && clusterAt (now (s .entry)) l i rule) ⌝ }
+{
+    if depth <= 2 {
+        return false;
+    }
+    link_cluster(s, l, i, rule)
+}
+
 pub fn article_cluster(s: &[u8], l: Layout, i: usize, tag: u8, depth: usize) -> bool
     requires { ⌜ Accepted (now s) l × (i < l .nodes) ⌝ }
     ensures { λ r. ⌜ ((name : Bytes) → tag ≡ tagOf name → r ≡ (is name "article" && (ltb 2 depth && clusterAt (now (s .entry)) l i fifthOf500))) ⌝ }
@@ -55,10 +65,7 @@ pub fn article_cluster(s: &[u8], l: Layout, i: usize, tag: u8, depth: usize) -> 
     if tag != 16 {
         return false;
     }
-    if depth <= 2 {
-        return false;
-    }
-    link_cluster(s, l, i, Rule::fifth_of_500())
+    deep_cluster(s, l, i, depth, Rule::fifth_of_500())
 }
 
 // The answer for an element without class and id.
@@ -79,11 +86,8 @@ pub fn div_cluster(s: &[u8], l: Layout, i: usize, tag: u8, depth: usize) -> bool
     requires { ⌜ Accepted (now s) l × (i < l .nodes) ⌝ }
     ensures { λ r. ⌜ ((name : Bytes) → tag ≡ tagOf name → r ≡ (ltb 2 depth && (is name "div" && clusterAt (now (s .entry)) l i threeFifthsOf1500))) ⌝ }
 {
-    if depth <= 2 {
-        return false;
-    }
     if tag != 23 {
         return false;
     }
-    link_cluster(s, l, i, Rule::three_fifths_of_1500())
+    deep_cluster(s, l, i, depth, Rule::three_fifths_of_1500())
 }

@@ -1,7 +1,7 @@
 -- `attributes::held` meets its contract.
 use native.Mathlib.Omega.{arith}
 use denote.Ref.{now}
-use Rattle.filters.proofs.StageLaws.{slot-short}
+use Rattle.filters.proofs.ValueLaws.{slot-short}
 use Rattle.filters.proofs.attributes.held.Statement.{statement}
 use Rattle.filters.proofs.attributes.held.Tie as tie
 

@@ -3,7 +3,7 @@ use mathlib.Core.Path.{sym, _∙_}
 use native.Mathlib.Omega.{arith}
 use borrow.Author.Needs.{needs}
 use denote.Ref.{now}
-use Rattle.filters.proofs.IconLaws.{icon-pilcrow, icon-size, icon-three}
+use Rattle.filters.proofs.IconLaws.{icon-pilcrow, icon-size, icon-private, icon-legacy}
 use Rattle.filters.proofs.icon.is_icon.Statement.{statement}
 use Rattle.filters.proofs.icon.is_icon.Tie as tie
 
@@ -32,7 +32,7 @@ in-private-use-requires : tie.Need-in-private-use-requires
 in-private-use-requires c κs = search needs
 
 returns-3 : tie.Need-returns-3
-returns-3 c = icon-three (c .before .before .before .before .before .before .before .before .before .before .args .icons) (now (c .before .before .before .before .before .before .before .before .before .before .args .text)) (sym (c .before .before .before .before .before .before .before .same .ensures) ∙ c .before .before .before .before .before .before .if1 .left) (c .before .before .before .before .before .if2 .left) (c .in-private-use .ensures ∙ rw (c .before .before .before .before .if3 .taken))
+returns-3 c = icon-private (c .before .before .before .before .before .before .before .before .before .before .args .icons) (now (c .before .before .before .before .before .before .before .before .before .before .args .text)) (sym (c .before .before .before .before .before .before .before .same .ensures) ∙ c .before .before .before .before .before .before .if1 .left) (c .before .before .before .before .before .if2 .left) (c .before .before .before .before .if3 .taken) (c .in-private-use .ensures)
 
 shared-slice-read-in-legacy-range : tie.Need-shared-slice-read-in-legacy-range
 shared-slice-read-in-legacy-range c = omega arith
@@ -47,7 +47,7 @@ in-legacy-range-requires : tie.Need-in-legacy-range-requires
 in-legacy-range-requires c κs = search needs
 
 returns-4 : tie.Need-returns-4
-returns-4 c = icon-three (c .before .before .before .before .before .before .before .before .before .before .args .icons) (now (c .before .before .before .before .before .before .before .before .before .before .args .text)) (sym (c .before .before .before .before .before .before .before .same .ensures) ∙ c .before .before .before .before .before .before .if1 .left) (c .before .before .before .before .before .if2 .left) (c .in-legacy-range .ensures ∙ rw (c .before .before .before .before .if3 .left))
+returns-4 c = icon-legacy (c .before .before .before .before .before .before .before .before .before .before .args .icons) (now (c .before .before .before .before .before .before .before .before .before .before .args .text)) (sym (c .before .before .before .before .before .before .before .same .ensures) ∙ c .before .before .before .before .before .before .if1 .left) (c .before .before .before .before .before .if2 .left) (c .before .before .before .before .if3 .left) (c .in-legacy-range .ensures)
 
 pub is-icon-spec : {M : Type 1} → statement M
 is-icon-spec =
