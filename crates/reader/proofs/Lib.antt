@@ -1,2 +1,3 @@
 pub mod DemandsLaws
+pub mod ExtractionLaws
 pub mod PagesLaws

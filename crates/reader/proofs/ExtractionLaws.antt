@@ -1,0 +1,55 @@
+-- What is extracted from an accepted sheet, or refused, is the answer to the byte string.
+use mathlib.Core.Path.{_≡_, refl, sym, ap, subst, _∙_}
+use mathlib.Core.Bool.{Bool}
+use Prim.Native.Nat.{ℕ}
+use lib.ListN.{length}
+use Rattle.common.specs.Bytes.{Bytes}
+use Rattle.extract.specs.Concluding.{Extracts}
+use Rattle.filters.specs.Filters.{filtered, filterDepth}
+use Rattle.html2text.specs.Extract as extract
+use Rattle.html2text.specs.declared.Extraction.{Extraction}
+use Rattle.html2text.specs.declared.Extraction.the-variants.{Refused}
+use Rattle.options.specs.declared.ExtractOptions.{ExtractOptions}
+use Rattle.sheet.specs.Layout.{depths}
+use Rattle.sheet.specs.Verdict.{verdictOf}
+use Rattle.sheet.specs.declared.line.Layout.{Layout}
+use Rattle.sheet.specs.declared.verdict.Verdict.{Verdict}
+use Rattle.sheet.specs.declared.verdict.Verdict.the-variants.{Sheet}
+use Rattle.tree.specs.Page.{nodeAt, pageOf}
+use Rattle.tree.proofs.QuestionsLaws.{NotSheet, on-sheet-refused}
+use Rattle.reader.specs.Extraction.{filters, extractionOf, outAfterOf, workAfterOf}
+
+-- the filters of a page read no marks
+same-filters : (s : Bytes) (l : Layout) (o : ExtractOptions) → filtered (pageOf s l) o ≡ filters (nodeAt s l) (depths s l) (l .root) o
+unfolding filtered filterDepth
+same-filters s l o = refl
+
+module _ (s : Bytes) (o : ExtractOptions) (out work : Bytes) where
+  module _ {l : Layout} {r : Extraction} {out′ work′ : Bytes} (v : verdictOf 8 s ≡ Sheet l) (x : Extracts (filtered (pageOf s l) o) (pageOf s l) o out work r out′ work′) where
+    ours : Extracts (filters (nodeAt s l) (depths s l) (l .root) o) (pageOf s l) o out work r out′ work′
+    ours = subst (λ (f : ℕ → Bool). Extracts f (pageOf s l) o out work r out′ work′) (same-filters s l o) x
+
+    pub sheet-answer : r ≡ extractionOf s o (length out) (length work)
+    unfolding extract.extractionOf
+    sheet-answer = rw v (ours .answer)
+
+    pub sheet-out : out′ ≡ outAfterOf s o out work
+    unfolding extract.outAfterOf
+    sheet-out = rw v (ours .out-is)
+
+    pub sheet-work : work′ ≡ workAfterOf s o work
+    unfolding extract.workAfterOf
+    sheet-work = rw v (ours .work-is)
+
+  module _ {v : Verdict} (e : v ≡ verdictOf 8 s) (k : NotSheet v) where
+    pub refused-answer : Refused v ≡ extractionOf s o (length out) (length work)
+    unfolding extract.extractionOf
+    refused-answer = rw (← e) (sym (on-sheet-refused (λ l. extract.extraction (filters (nodeAt s l) (depths s l) (l .root) o) (pageOf s l) o (length out) (length work)) Refused v k))
+
+    pub refused-out : out ≡ outAfterOf s o out work
+    unfolding extract.outAfterOf
+    refused-out = rw (← e) (sym (on-sheet-refused (λ l. extract.outAfter (filters (nodeAt s l) (depths s l) (l .root) o) (pageOf s l) o out work) (λ x. out) v k))
+
+    pub refused-work : work ≡ workAfterOf s o work
+    unfolding extract.workAfterOf
+    refused-work = rw (← e) (sym (on-sheet-refused (λ l. extract.workAfter (filters (nodeAt s l) (depths s l) (l .root) o) (pageOf s l) o work) (λ x. work) v k))
