@@ -1,0 +1,5 @@
+pub mod NotedLaws
+pub mod SeeLaws
+pub mod WalkStart
+pub mod WalkedLaws
+pub mod Walking
