@@ -1,16 +1,15 @@
 -- A pass of the walk as `see` gives it: a visit with its row's numbers, a row that is left out, or none.
-use mathlib.Core.Path.{_≡_, refl, sym, ap, subst, _∙_}
+use mathlib.Core.Path.{_≡_, sym, ap, subst, _∙_}
 use mathlib.Core.Bool.{Bool, true, false}
-use mathlib.Core.List.{List, [], _∷_}
-use Prim.Native.Nat.{ℕ, suc, _≤_, _<_}
+use mathlib.Core.List.{List, _∷_}
+use Prim.Native.Nat.{ℕ, _≤_, _<_}
 use native.Mathlib.Omega.{arith}
 use lib.ListN.{length}
 use Rattle.common.specs.Bytes.{Bytes}
 use Rattle.sheet.specs.Layout as layout
 use Rattle.sheet.specs.declared.line.Layout.{Layout}
 use Rattle.sheet.proofs.LayoutLaws.{depths-from-length}
-use Rattle.html2text.specs.Collect.{Event}
-use Rattle.collect.specs.Visits.{Visits, eventOf}
+use Rattle.collect.specs.Visits.{eventOf}
 use Rattle.collect.specs.declared.Visit.{Visit}
 use Rattle.walk.specs.Turns.{turnsLeft, eventsOf, flagged, ColumnRight, Fits, Advances}
 use Rattle.walk.specs.declared.cursor.Next.{Next}
