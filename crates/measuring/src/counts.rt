@@ -6,12 +6,11 @@ use options::Formatting;
 ghost use mathlib.Core.Bool.{_&&_, false, not};
 ghost use mathlib.Core.Path.{_≡_};
 ghost use Prim.Native.Nat.{_-_};
-ghost use lib.Dec.{leb};
 ghost use Rattle.html2text.specs.Levels.{counted, levelsTaken, recounted};
 ghost use Rattle.html2text.specs.Serialize.{changesLevel};
 ghost use Rattle.options.specs.Options.{isOff};
 ghost use Rattle.tags.specs.Tags.{isList, isTr};
-ghost use Rattle.measuring.specs.Measuring.{levelsAfter, levelsIn};
+ghost use Rattle.measuring.specs.Measuring.{levelsAfter, levelsIn, tooMany};
 
 const TR: u8 = 1;
 
@@ -55,8 +54,8 @@ fn is_tr(tag: u8) -> bool
 }
 
 // Whether one more would be too many.
-fn passes(counts: bool, end: bool, k: usize) -> bool
-    ensures { λ r. ⌜ r ≡ (counts && (not end && leb 1024 k)) ⌝ }
+fn too_many(counts: bool, end: bool, k: usize) -> bool
+    ensures { λ r. ⌜ r ≡ tooMany counts end k ⌝ }
 {
     if counts {
         if end {
@@ -79,7 +78,7 @@ fn less_one(k: usize) -> usize
 
 // One less at an end, one more otherwise, where it counts.
 fn recounted(counts: bool, end: bool, k: usize) -> usize
-    requires { ⌜ (counts && (not end && leb 1024 k)) ≡ false ⌝ }
+    requires { ⌜ tooMany counts end k ≡ false ⌝ }
     ensures { λ r. ⌜ r ≡ recounted counts end k ⌝ }
 {
     if counts {
@@ -95,11 +94,11 @@ fn count(f: Formatting, line: usize, n: ExtractNode, depth: usize, rows: usize) 
     ensures { λ r. ⌜ levelsIn r ≡ levelsTaken f line n (counted depth rows) ⌝ }
 {
     let listed = counts_level(f, n.tag, depth);
-    if passes(listed, n.end, depth) {
+    if too_many(listed, n.end, depth) {
         return Levels::TooManyLevels(line);
     }
     let tabled = is_tr(n.tag);
-    if passes(tabled, n.end, rows) {
+    if too_many(tabled, n.end, rows) {
         return Levels::TooManyRows(line);
     }
     Levels::Counted {

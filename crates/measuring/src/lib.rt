@@ -1,5 +1,6 @@
 // The first pass over the rows, which writes to no buffer: the lengths of the entries' texts, list levels and open rows, and the visits.
 mod counts;
+pub mod pass;
 
 use collect::OpenEntry;
 
