@@ -1,4 +1,7 @@
 // The first pass over the rows, which writes to no buffer: the lengths of the entries' texts, list levels and open rows, and the visits.
+mod counts;
+pub mod pass;
+
 use collect::OpenEntry;
 
 // The list depth and the number of open rows, or the line of the first entry that would pass a limit.
