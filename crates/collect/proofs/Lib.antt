@@ -1,2 +1,3 @@
 pub mod AddedLaws
 pub mod Attributes
+pub mod EntryLaws

@@ -1,5 +1,6 @@
 // `collect` of html2text.rs, with one entry open: what a visit to a row adds to its text, and the entry that the visit opens.
 pub mod added;
+pub mod entry;
 pub mod tests;
 
 use html2text::ExtractNode;

@@ -1,4 +1,4 @@
--- The numbers and the buffer after a run of bytes, and without the blanks at the end.
+-- The numbers and the buffer with no text, after a run of bytes, and without the blanks at the end.
 use mathlib.Core.Path.{_≡_, refl, sym, ap, _∙_}
 use mathlib.Core.Bool.{Bool, true, false, cond}
 use mathlib.Core.List.{[], _∷_, _++_}
@@ -13,9 +13,16 @@ use Rattle.common.proofs.Choice.{by-cond}
 use Rattle.text.specs.Text.{isSpace, keeping, rstrip, rstripBy}
 use Rattle.text.proofs.TrimLaws.{before, rstrip-append, rstrip-prefix, rstrip-length, rstrip-idempotent}
 use Rattle.writer.specs.Out.{pushAll, strip}
-use Rattle.writer.specs.Writing.{Ready, Does, grown, trimmed, stored}
+use Rattle.writer.specs.Writing.{Held, Ready, Does, grown, trimmed, stored}
 use Rattle.writer.specs.declared.Writer.{Writer}
 use Rattle.writer.proofs.OutLaws.{greater-max, push-all-text, push-all-peak}
+
+-- ---- no text: at the start, or let go
+
+pub held-none : {write : Bool} {under buf : Bytes} {p q : ℕ} → p ≡ q → length buf ≡ length under → (write ≡ false → buf ≡ under)
+    → Held write under (record { len = 0; kept = 0; peak = p }) buf (record { text = []; peak = q })
+unfolding rstripBy
+held-none e long still = record { len = refl; kept = refl; peak = e; below = omega arith; long = long; text = λ w. refl; still = still }
 
 -- ---- how much of a run is kept
 
