@@ -1,0 +1,2 @@
+pub mod SeeLaws
+pub mod WalkStart
