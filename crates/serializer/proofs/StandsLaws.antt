@@ -1,4 +1,4 @@
--- A part of the numbers set anew, and the same part of the state: they go on standing for each other.
+-- The numbers stand for the state at the start; a part of both set anew, they go on standing for each other.
 use mathlib.Core.Path.{_≡_, refl, sym, ap, _∙_}
 use mathlib.Core.Bool.{Bool}
 use mathlib.Core.List.{List, _∷_, [], _++_}
@@ -11,11 +11,12 @@ use lib.Seq.{take-all, take-take, take-suc-set, take-set-lt, length-take-le, get
 use borrow.Author.Tests.{leb-true, leb-false}
 use Rattle.common.specs.Bytes.{Bytes}
 use Rattle.common.proofs.Choice.{by-test}
-use Rattle.html2text.specs.Serialize.{State, onOut, withPrefix, withBullet, withLevels, withMargins, withUncollapsed, withRows, pop}
+use Rattle.html2text.specs.Serialize.{State, start, onOut, withPrefix, withBullet, withLevels, withMargins, withUncollapsed, withRows, pop}
 use Rattle.writer.specs.Out.{Out}
 use Rattle.writer.specs.Writing.{Held}
 use Rattle.writer.specs.declared.Writer.{Writer}
-use Rattle.serializer.specs.Serializing.{setWriter, setPrefix, setBullet, setDepth, setMargins, setUncollapsed, setRows, Lent, lent, Stands, Able, prefixText}
+use Rattle.writer.proofs.HeldLaws.{held-none}
+use Rattle.serializer.specs.Serializing.{noSerializer, setWriter, setPrefix, setBullet, setDepth, setMargins, setUncollapsed, setRows, Lent, lent, Stands, Able, prefixText}
 use Rattle.serializer.specs.declared.Prefix.{Prefix}
 use Rattle.serializer.specs.declared.Serializer.{Serializer}
 
@@ -71,6 +72,11 @@ module _ {write : Bool} {under : Bytes} {s : Serializer} {a : Lent} {S : State} 
 
   pub stands-rows : {k : ℕ} {cs l : List Bool} → k ≡ length l → take k cs ≡ l → Stands write under (setRows k s) (lent (a .numbering) cs (a .out)) (withRows l S)
   stands-rows k t = record { held = h .held; prefix = h .prefix; bullet = h .bullet; depth = h .depth; margins = h .margins; uncollapsed = h .uncollapsed; deep = h .deep; numbering = h .numbering; rows = k; cells = t }
+
+-- ---- at the start
+
+pub stands-start : (write : Bool) (out : Bytes) (numbering : List ℕ) (cells : List Bool) → Stands write out noSerializer (lent numbering cells out) start
+stands-start write out numbering cells = record { held = held-none refl refl (λ w. refl); prefix = refl; bullet = refl; depth = refl; margins = refl; uncollapsed = refl; deep = refl; numbering = refl; rows = refl; cells = refl }
 
 -- ---- the stacks lie inside their arrays
 

@@ -24,6 +24,10 @@ prefixText Nothing = []
 prefixText Bullet = bulletText
 prefixText (Number k) = numberText k
 
+-- before the first entry
+abbrev pub noSerializer : Serializer
+noSerializer = record { writer = record { len = 0; kept = 0; peak = 0 }; prefix = Nothing; bullet = false; depth = 0; margins = 0; uncollapsed = 0; rows = 0 }
+
 -- ---- the numbers with a part new
 
 abbrev pub setWriter : Writer → Serializer → Serializer

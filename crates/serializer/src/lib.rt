@@ -11,6 +11,7 @@ ghost use mathlib.Core.Path.{_≡_};
 ghost use Prim.Native.Nat.{_-_};
 ghost use Rattle.html2text.specs.Serialize.{changesLevel};
 ghost use Rattle.tags.specs.Tags.{isList};
+ghost use Rattle.serializer.specs.Serializing.{noSerializer};
 
 // The numbers of the tags that are told apart (crates/tags).
 const TR: u8 = 1;
@@ -47,6 +48,27 @@ pub struct Serializer {
     pub margins: usize,
     pub uncollapsed: usize,
     pub rows: usize,
+}
+
+impl Serializer {
+    // Before the first entry.
+    pub fn new() -> Serializer
+        ensures { λ r. ⌜ r ≡ noSerializer ⌝ }
+    {
+        Serializer {
+            writer: Writer {
+                len: 0,
+                kept: 0,
+                peak: 0,
+            },
+            prefix: Prefix::Nothing,
+            bullet: false,
+            depth: 0,
+            margins: 0,
+            uncollapsed: 0,
+            rows: 0,
+        }
+    }
 }
 
 // `x.saturating_sub(1)`
