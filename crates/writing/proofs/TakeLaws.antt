@@ -12,16 +12,15 @@ use Rattle.common.specs.Bytes.{Bytes}
 use Rattle.options.specs.Options.{isOff}
 use Rattle.options.specs.declared.ExtractOptions.{ExtractOptions}
 use Rattle.tags.specs.Tags.{isTr}
-use Rattle.html2text.specs.Bounds.{mostEvents, Going, StateBounded}
-use Rattle.html2text.specs.Extract.{Run, going, passesLevels, passesRows, taken}
+use Rattle.html2text.specs.Bounds.{Going, StateBounded}
+use Rattle.html2text.specs.Extract.{going, passesLevels, passesRows}
 use Rattle.html2text.specs.Fused.{Fused, closed, openEntry}
 use Rattle.html2text.specs.Serialize.{State, step, changesLevel}
-use Rattle.html2text.specs.declared.ExtractNode.{ExtractNode}
 use Rattle.html2text.proofs.GoingLaws.{going-at, going-taken}
-use Rattle.serializer.specs.Serializing.{Lent, Stands, Able, Works, Limits}
+use Rattle.serializer.specs.Serializing.{Lent, Able, Works, Limits}
 use Rattle.serializer.specs.declared.Serializer.{Serializer}
 use Rattle.serializer.proofs.StandsLaws.{stack-long}
-use Rattle.writing.specs.Passing.{Passes, Levelled, TakeReady, Takes}
+use Rattle.writing.specs.Passing.{Passes, TakeReady, Takes}
 use Rattle.writing.specs.declared.Pass.{Pass}
 
 -- ---- a run that goes on when its open entry is taken
@@ -71,29 +70,33 @@ module _ {write : Bool} {under below : Bytes} {p : Pass} {work : Bytes} {a : Len
 
 module _ {o : ExtractOptions} {write : Bool} {p : Pass} {work : Bytes} {a : Lent} where
   pub take-inside : TakeReady o write p work a → p .entry .note .len ≤ length work
-  take-inside r = stack-long work (r .fused .note .text) (p .entry .note .len) (r .passes .entry .note .len) (text-is (r .passes))
+  take-inside r =
+      let h = r .standing .passes in stack-long work (r .standing .fused .note .text) (p .entry .note .len) (h .entry .note .len) (text-is h)
 
   module _ (any : p .entry .any ≡ true) where
+    steps : (r : TakeReady o write p work a) → Steps o (r .standing .fused) (r .standing .passes .state) (r .goes-on .after)
+    steps r = let h = r .standing .passes in closed-steps o (r .standing .fused) (h .run) (r .goes-on .is) (any-is h any)
+
     pub take-limits : TakeReady o write p work a → Limits (o .formatting) (p .serializer) (a .numbering) (a .cells) (p .entry .node)
     take-limits r =
-        let h = r .passes in
+        let t = r .standing in
+        let h = t .passes in
         let T = h .state in
-        let q = closed-steps o (r .fused) (h .run) (r .goes-on) (any-is h any) in
-        let n = r .fused .node in
+        let n = t .fused .node in
         rw (h .entry .node, h .stands .depth)
         record {
-          margins = omega (arith, h .stands .margins, r .bounded .margins, r .few);
-          uncollapsed = omega (arith, h .stands .uncollapsed, r .bounded .uncollapsed, r .few);
-          row = λ t f. omega (arith, h .stands .rows, r .levelled .cells, row-left (isTr (n .tag)) (n .end) (length (T .rowHasCell)) (q .rows) t f);
-          level = λ off changes f. omega (arith, r .levelled .numbering, level-left (isOff (o .formatting)) (n .end) (changesLevel (n .tag) (T .depth)) (T .depth) (q .levels) off changes f);
-          numbers = λ i low. omega (arith, numbers-small h (r .bounded) i low, r .few);
+          margins = omega (arith, h .stands .margins, t .bounded .margins, t .few);
+          uncollapsed = omega (arith, h .stands .uncollapsed, t .bounded .uncollapsed, t .few);
+          row = λ tr f. omega (arith, h .stands .rows, t .levelled .cells, row-left (isTr (n .tag)) (n .end) (length (T .rowHasCell)) (steps r .rows) tr f);
+          level = λ off changes f. omega (arith, t .levelled .numbering, level-left (isOff (o .formatting)) (n .end) (changesLevel (n .tag) (T .depth)) (T .depth) (steps r .levels) off changes f);
+          numbers = λ i low. omega (arith, numbers-small h (t .bounded) i low, t .few);
         }
 
     pub take-able : TakeReady o write p work a → Able write (p .serializer) a (step (o .formatting) (o .«list_bullets») (p .entry .node) (take (p .entry .note .len) work))
     take-able r =
-        let h = r .passes in
+        let h = r .standing .passes in
         rw (h .entry .node, text-is h)
-        record { under = r .below; state = h .state; stands = h .stands; room = rw (closed-steps o (r .fused) (h .run) (r .goes-on) (any-is h any) .after) (r .room) }
+        record { under = r .standing .below; state = h .state; stands = h .stands; room = rw (steps r .after) (r .goes-on .room) }
 
     pub take-works : {t : Serializer} {a′ : Lent} → Works write (p .serializer) a t a′ (step (o .formatting) (o .«list_bullets») (p .entry .node) (take (p .entry .note .len) work)) → Takes o write p work a t a′
     take-works d =

@@ -9,8 +9,7 @@ use Rattle.writer.specs.Writing.{Room}
 use Rattle.html2text.specs.Collect.{Event}
 use Rattle.html2text.specs.Extract.{going}
 use Rattle.html2text.specs.Fused.{Fused, closed, pushesOn, opened, grown, fed}
-use Rattle.html2text.specs.Serialize.{State}
-use Rattle.collect.specs.Entries.{Opens, opensOn, EntryReady, EntryDoes}
+use Rattle.collect.specs.Entries.{opensOn, EntryReady, EntryDoes}
 use Rattle.collect.specs.Visits.{Visits, eventOf}
 use Rattle.collect.specs.declared.OpenEntry.{OpenEntry}
 use Rattle.collect.specs.declared.Visit.{Visit}
@@ -36,6 +35,13 @@ run-grown : (o : ExtractOptions) (e : Event) (F : Fused) → grown o e F .run �
 unfolding grown
 run-grown o e F = refl
 
+-- what a function that changes the open entry as H asks for
+entry-ready : {o : ExtractOptions} {write : Bool} {p : Pass} {work : Bytes} {a : Lent} {pushes : Bool} {G H : Fused → Fused} (r : PassReady o write p work a pushes G)
+    → G (r .standing .fused) ≡ H (r .standing .fused) → EntryReady true (p .entry) work H
+entry-ready r e =
+    let t = r .standing in
+    record { under = t .under; fused = t .fused; opens = t .passes .entry; room = subst (λ (F : Fused). Room true (t .under) (F .note .peak)) e (r .note-room); nested = r .nested }
+
 module _ (o : ExtractOptions) {s : Bytes} {l : Layout} {v : Visit} (visits : Visits s l v) where
   abbrev event : Event
   event = eventOf s l v
@@ -51,31 +57,10 @@ module _ (o : ExtractOptions) {s : Bytes} {l : Layout} {v : Visit} (visits : Vis
 
     module _ (yes : opens ≡ true) where
       pub visit-take : Asked write p work a → TakeReady o write p work a
-      visit-take r =
-          let y = sym e ∙ yes in
-          record {
-            under = r .under;
-            below = r .below;
-            fused = r .fused;
-            passes = r .passes;
-            count = r .count;
-            few = r .few;
-            bounded = r .bounded;
-            after = r .after y;
-            goes-on = r .goes-on y;
-            room = r .room y;
-            levelled = r .levelled;
-          }
+      visit-take r = record { standing = r .standing; goes-on = r .goes-on (sym e ∙ yes) }
 
       pub visit-begin : Asked write p work a → EntryReady true (p .entry) work (opened o event)
-      visit-begin r =
-          record {
-            under = r .under;
-            fused = r .fused;
-            opens = r .passes .entry;
-            room = rw (fed-opened o event (r .fused) (pushes-is (r .passes) ∙ yes)) at (r .note-room);
-            nested = r .nested;
-          }
+      visit-begin r = entry-ready r (fed-opened o event (r .standing .fused) (pushes-is (r .standing .passes) ∙ yes))
 
       pub visit-opened : {t : Serializer} {a′ : Lent} {entry : OpenEntry} {work′ : Bytes} → Takes o write p work a t a′ → EntryDoes true (p .entry) work entry work′ (opened o event)
           → PassDoes write p work a (record { entry = entry; serializer = t }) work′ a′ (fed o event)
@@ -91,14 +76,7 @@ module _ (o : ExtractOptions) {s : Bytes} {l : Layout} {v : Visit} (visits : Vis
 
     module _ (no : opens ≡ false) where
       pub visit-grow : Asked write p work a → EntryReady true (p .entry) work (grown o event)
-      visit-grow r =
-          record {
-            under = r .under;
-            fused = r .fused;
-            opens = r .passes .entry;
-            room = rw (fed-grown o event (r .fused) (pushes-is (r .passes) ∙ no)) at (r .note-room);
-            nested = r .nested;
-          }
+      visit-grow r = entry-ready r (fed-grown o event (r .standing .fused) (pushes-is (r .standing .passes) ∙ no))
 
       pub visit-grown : {entry : OpenEntry} {work′ : Bytes} → EntryDoes true (p .entry) work entry work′ (grown o event)
           → PassDoes write p work a (record { entry = entry; serializer = p .serializer }) work′ a (fed o event)
