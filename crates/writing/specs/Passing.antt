@@ -1,7 +1,6 @@
 -- What the numbers of a pass say of a fused run in which no entry was refused, and what its functions ask for and promise.
 use mathlib.Core.Path.{_≡_}
 use mathlib.Core.Bool.{Bool, true}
-use mathlib.Core.List.{List}
 use Prim.Native.Nat.{ℕ, _≤_, _<_}
 use lib.ListN.{length}
 use Rattle.common.specs.Bytes.{Bytes}
@@ -29,10 +28,8 @@ pub record Levelled (a : Lent) : Type 0 where
   pub numbering : length (a .numbering) ≡ 1024
   pub cells : length (a .cells) ≡ 1024
 
--- ---- the open entry goes to `serialize`
-
--- no limit is passed, and there is room for what the entry writes
-pub record TakeReady (o : ExtractOptions) (write : Bool) (p : Pass) (work : Bytes) (a : Lent) : Type 0 where
+-- they stand for a run of few entries
+pub record Standing (write : Bool) (p : Pass) (work : Bytes) (a : Lent) : Type 0 where
   pub under : Bytes
   pub below : Bytes
   pub fused : Fused
@@ -40,10 +37,19 @@ pub record TakeReady (o : ExtractOptions) (write : Bool) (p : Pass) (work : Byte
   pub count : ℕ
   pub few : count ≤ mostEvents
   pub bounded : StateBounded count (passes .state)
-  pub after : State
-  pub goes-on : closed o fused ≡ going after
-  pub room : Room write below (after .out .peak)
   pub levelled : Levelled a
+
+-- ---- the open entry goes to `serialize`
+
+-- no limit is passed, and there is room for what the entry writes
+pub record GoesOn (o : ExtractOptions) (write : Bool) (below : Bytes) (F : Fused) : Type 0 where
+  pub after : State
+  pub is : closed o F ≡ going after
+  pub room : Room write below (after .out .peak)
+
+pub record TakeReady (o : ExtractOptions) (write : Bool) (p : Pass) (work : Bytes) (a : Lent) : Type 0 where
+  pub standing : Standing write p work a
+  pub goes-on : GoesOn o write (standing .below) (standing .fused)
 
 pub record Takes (o : ExtractOptions) (write : Bool) (p : Pass) (work : Bytes) (a : Lent) (t : Serializer) (a′ : Lent) : Type 0 where
   pub run : (under below : Bytes) (F : Fused) (S : State) → Passes write under below p work a F → closed o F ≡ going S → Stands write below t a′ S
@@ -51,20 +57,11 @@ pub record Takes (o : ExtractOptions) (write : Bool) (p : Pass) (work : Bytes) (
 -- ---- a visit
 
 pub record PassReady (o : ExtractOptions) (write : Bool) (p : Pass) (work : Bytes) (a : Lent) (pushes : Bool) (G : Fused → Fused) : Type 0 where
-  pub under : Bytes
-  pub below : Bytes
-  pub fused : Fused
-  pub passes : Passes write under below p work a fused
-  pub count : ℕ
-  pub few : count ≤ mostEvents
-  pub bounded : StateBounded count (passes .state)
-  pub nested : fused .node .«pre_depth» < 4611686018427387904
-  pub note-room : Room true under (G fused .note .peak)
-  -- where the visit opens an entry, the one before it is taken, and there is room for what it writes
-  pub after : pushes ≡ true → State
-  pub goes-on : (e : pushes ≡ true) → closed o fused ≡ going (after e)
-  pub room : (e : pushes ≡ true) → Room write below (after e .out .peak)
-  pub levelled : Levelled a
+  pub standing : Standing write p work a
+  pub nested : standing .fused .node .«pre_depth» < 4611686018427387904
+  pub note-room : Room true (standing .under) (G (standing .fused) .note .peak)
+  -- where the visit opens an entry, the one before it is taken
+  pub goes-on : pushes ≡ true → GoesOn o write (standing .below) (standing .fused)
 
 -- Of every run that they stand for at first and that goes on, they stand for G of it at last.
 pub record PassDoes (write : Bool) (p : Pass) (work : Bytes) (a : Lent) (p′ : Pass) (work′ : Bytes) (a′ : Lent) (G : Fused → Fused) : Type 0 where
