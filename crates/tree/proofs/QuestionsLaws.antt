@@ -64,10 +64,10 @@ on-sheet-map f a r (Range line) = r (Range line)
 on-sheet-map f a r (Encoding line) = r (Encoding line)
 
 -- a verdict that is not `Sheet`, by the number of its case
-abbrev NotSheet : Verdict → Type 0
+abbrev pub NotSheet : Verdict → Type 0
 NotSheet v = OneOf (1 ∷ 2 ∷ 3 ∷ 4 ∷ 5 ∷ 6 ∷ 7 ∷ []) (tagOf the-type v)
 
-on-sheet-refused : {A : Type 0} (ask : Layout → A) (refuse : Verdict → A) (v : Verdict) → NotSheet v → onSheet ask refuse v ≡ refuse v
+pub on-sheet-refused : {A : Type 0} (ask : Layout → A) (refuse : Verdict → A) (v : Verdict) → NotSheet v → onSheet ask refuse v ≡ refuse v
 on-sheet-refused ask refuse (Sheet l) k = absurd (miss (1 ∷ 2 ∷ 3 ∷ 4 ∷ 5 ∷ 6 ∷ 7 ∷ []) 0 tt k)
 on-sheet-refused ask refuse (Length n) k = refl
 on-sheet-refused ask refuse (Format line) k = refl
