@@ -1,23 +1,42 @@
 -- The answer and the buffers at each return: a limit passed, work too short, out too short, a text.
 use mathlib.Core.Path.{_≡_, refl, sym, ap, subst, _∙_}
-use mathlib.Core.Bool.{Bool, true, false, cond}
+use mathlib.Core.Bool.{Bool, true, false, cond, true≢false}
 use mathlib.Core.List.{List, [], _++_}
 use Prim.Native.Nat.{ℕ, _+_, _-_, _≤_, _<_}
 use native.Mathlib.Omega.{arith}
 use lib.Dec.{ltb}
-use lib.ListN.{length, take, replicate}
+use lib.ListN.{length, take, replicate, length-take}
 use borrow.Author.Tests.{lt-ltb, le-ltb}
 use Rattle.common.specs.Bytes.{Bytes, padded}
-use Rattle.text.specs.Text.{rstrip}
+use Rattle.options.specs.declared.ExtractOptions.{ExtractOptions}
+use Rattle.text.specs.Text.{isSpace, rstrip}
+use Rattle.text.proofs.TrimLaws.{rstrip-length}
 use Rattle.writer.specs.Out.{Out, strip}
 use Rattle.writer.specs.Writing.{Held, trimmed}
 use Rattle.writer.specs.declared.Writer.{Writer}
 use Rattle.writer.proofs.HeldLaws.{trim-does}
 use Rattle.html2text.specs.Extract.{Run, going, tooManyLevels, tooManyRows, finished}
+use Rattle.html2text.specs.Fused.{Fused, closed}
 use Rattle.html2text.specs.Serialize.{State}
 use Rattle.html2text.specs.declared.Extraction.{Extraction}
 use Rattle.html2text.specs.declared.Extraction.the-variants.{Text, ListLevels, OpenRows, WorkTooShort, OutTooShort}
-use Rattle.extract.specs.Concluding.{Concludes}
+use Rattle.writing.specs.Passing.{WriteReady}
+use Rattle.extract.specs.Concluding.{Concludes, GoesOn}
+
+-- the text without the blanks at its end, and zeros behind it
+pub text-padded : {under buf : Bytes} {w : Writer} {o : Out} → Held true under w buf o → take (w .kept) buf ++ replicate (length buf - w .kept) 0 ≡ padded (rstrip (o .text)) (length under)
+unfolding strip
+text-padded {under} {buf} {w} {o} h =
+    let t = trim-does true w buf .run under o h .text refl in
+    rw (h .kept, t, h .long)
+
+-- what is kept of a text lies in the buffer
+pub kept-inside : {under buf : Bytes} {w : Writer} {o : Out} → Held true under w buf o → w .kept ≤ length buf
+kept-inside {under} {buf} {w} {o} h =
+    let n = length (o .text) in
+    omega (arith, h .kept, rstrip-length isSpace (o .text), ap length (h .text refl), length-take n buf)
+
+-- ---- at each return
 
 module _ (need passes : ℕ) (out work : Bytes) where
   pub concludes-levels : {R : Run} {line : ℕ} → R ≡ tooManyLevels line → Concludes need passes R out work (ListLevels line) out work
@@ -33,26 +52,29 @@ module _ (need passes : ℕ) (out work : Bytes) where
         rw e (record { answer = rw q; out-is = rw q; work-is = rw q })
 
     module _ (h : need ≤ length work) where
-      pub concludes-out : {k : ℕ} {work′ : Bytes} → k ≡ S .out .peak → length out < k → work′ ≡ padded [] (length work) → Concludes need passes R out work (OutTooShort k) out work′
-      concludes-out k-is short cleared =
+      -- measured: out is as it was
+      pub concludes-out : (cleared : Bytes) {w : Writer} {out′ work′ : Bytes} → Held false out w out′ (S .out) → length out′ < w .peak → length cleared ≡ length work
+          → work′ ≡ take 0 cleared ++ replicate (length cleared - 0) 0 → Concludes need passes R out work (OutTooShort (w .peak)) out′ work′
+      concludes-out cleared {w} {out′} m short same zeros =
           let q = le-ltb (length work) need h in
-          let p = lt-ltb (length out) (S .out .peak) (omega (arith, k-is, short)) in
-          rw (e, k-is) (record { answer = rw (q, p); out-is = rw (q, p); work-is = rw q cleared })
+          let p = lt-ltb (length out) (S .out .peak) (omega (arith, short, m .peak, m .long)) in
+          rw (e, m .peak, m .still refl, zeros, same) (record { answer = rw (q, p); out-is = rw (q, p); work-is = rw q })
 
-      pub concludes-text : {k : ℕ} {out′ work′ : Bytes} → k ≡ length (finished S) → S .out .peak ≤ length out → out′ ≡ padded (finished S) (length out) → work′ ≡ padded [] (length work)
-          → Concludes need passes R out work (Text passes k) out′ work′
-      concludes-text k-is fits written cleared =
+      -- measured, and then written
+      pub concludes-text : (cleared : Bytes) {v w : Writer} {measured written out′ work′ : Bytes} → Held false out v measured (S .out) → Held true measured w written (S .out) → v .peak ≤ length measured
+          → length cleared ≡ length work → work′ ≡ take 0 cleared ++ replicate (length cleared - 0) 0 → out′ ≡ take (w .kept) written ++ replicate (length written - w .kept) 0
+          → Concludes need passes R out work (Text passes (w .kept)) out′ work′
+      concludes-text cleared {v} {w} m t fits same zeros text-is =
           let q = le-ltb (length work) need h in
-          let p = le-ltb (length out) (S .out .peak) fits in
-          rw (e, k-is) (record { answer = rw (q, p); out-is = rw (q, p) written; work-is = rw q cleared })
+          let p = le-ltb (length out) (S .out .peak) (omega (arith, fits, m .peak, m .long)) in
+          rw (e, t .kept, text-is ∙ text-padded t, m .long, zeros, same) (record { answer = rw (q, p); out-is = rw (q, p); work-is = rw q })
 
--- the text without the blanks at its end, and zeros behind it
-pub text-padded : {under buf : Bytes} {w : Writer} {o : Out} → Held true under w buf o → take (w .kept) buf ++ replicate (length buf - w .kept) 0 ≡ padded (rstrip (o .text)) (length under)
-unfolding strip
-text-padded {under} {buf} {w} {o} h =
-    let t = trim-does true w buf .run under o h .text refl in
-    rw (h .kept, t, h .long)
+-- ---- before the second and the third pass
 
--- all zeros
-pub cleared-all : (buf : Bytes) {after : Bytes} → after ≡ take 0 buf ++ replicate (length buf - 0) 0 → after ≡ padded [] (length buf)
-cleared-all buf e = e
+module _ {o : ExtractOptions} {whole : Fused} {need : ℕ} (work : Bytes) (g : GoesOn (closed o whole)) (small : whole .note .peak ≤ need) (h : need ≤ length work) where
+  pub measure-ready : (out : Bytes) → WriteReady o whole false work out
+  measure-ready out = record { state = g .state; goes-on = g .goes-on; work-long = omega arith; out-long = λ q. absurd (true≢false (sym q)) }
+
+  pub write-ready : (work′ : Bytes) {v : Writer} {out measured : Bytes} → Held false out v measured (g .state .out) → v .peak ≤ length measured → length work′ ≡ length work → WriteReady o whole true work′ measured
+  write-ready work′ m fits same =
+      record { state = g .state; goes-on = g .goes-on; work-long = omega (arith, same); out-long = λ q. omega (arith, fits, m .peak) }

@@ -1,3 +1,4 @@
 pub mod ColumnLaws
 pub mod ConcludeLaws
 pub mod ExtractLaws
+pub mod RowLaws
