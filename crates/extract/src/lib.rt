@@ -1,2 +1,3 @@
-// The passes of an extraction over the rows of an accepted sheet, and the answer.
+// The extraction of an accepted sheet: what is noted of its rows, the passes over them, and the answer.
+pub mod accepted;
 pub mod passes;

@@ -1,0 +1,109 @@
+// The extraction of an accepted sheet: its rows are read once into columns, the rows that are left out are decided, and the passes follow.
+use crate::passes::extract_rows;
+use html2text::Extraction;
+use left_out::decide;
+use options::ExtractOptions;
+use sheet::line::Layout;
+use walk::names::longest_names;
+use walk::rows::read_rows;
+ghost use mathlib.Core.Path.{_≡_};
+ghost use Prim.Native.Nat.{_≤_, _<_};
+ghost use lib.ListN.{length};
+ghost use Rattle.filters.specs.Filters.{filtered};
+ghost use Rattle.sheet.specs.Accepted.{Accepted};
+ghost use Rattle.tree.specs.Page.{nodeAt, pageOf};
+ghost use Rattle.walk.specs.Rows.{Columns};
+ghost use Rattle.extract.specs.Concluding.{Extracts, namesNeed};
+
+// What work must hold beside the entries' texts.
+fn names_need(s: &[u8], l: Layout, o: ExtractOptions) -> usize
+    requires { ⌜ Accepted (now s) l ⌝ }
+    ensures { λ r. ⌜ r ≡ namesNeed (pageOf (now (s .entry)) l) o ⌝ }
+{
+    if o.main_content {
+        return longest_names(s, l);
+    }
+    0
+}
+
+fn extract_columns(
+    s: &[u8],
+    l: Layout,
+    o: ExtractOptions,
+    depths: &mut [u16],
+    tags: &mut [u8],
+    attributes: &mut [u32],
+    values: &mut [u32],
+    lengths: &mut [u32],
+    left: &mut [bool],
+    stack: &mut [usize],
+    numbering: &mut [usize],
+    cells: &mut [bool],
+    out: &mut [u8],
+    work: &mut [u8],
+) -> Extraction
+    requires { ⌜ Accepted (now s) l × Columns (l .nodes) (now depths) (now tags) (now attributes) (now values) (now lengths) (now left) ⌝ }
+    requires { ⌜ (500 < length (now stack)) × (length (now numbering) ≡ 1024) × (length (now cells) ≡ 1024) ⌝ }
+    ensures { λ r. ⌜ Extracts (filtered (pageOf (now (s .entry)) l) o) (pageOf (now (s .entry)) l) o (now (out .entry)) (now (work .entry)) r (now (out .exit)) (now (work .exit)) ⌝ }
+{
+    let nodes = l.nodes;
+    read_rows(s, l, depths, tags, attributes, values, lengths, left);
+    let column = &depths[..nodes];
+    decide(s, l, o, column, tags, attributes, left);
+    let names = names_need(s, l, o);
+    extract_rows(
+        o,
+        s,
+        l,
+        column,
+        tags,
+        attributes,
+        values,
+        lengths,
+        left,
+        stack,
+        numbering,
+        cells,
+        names,
+        out,
+        work,
+    )
+}
+
+// "N 1 to 20,000", "depth to 500; list levels to 1,024; open rows to 1,024"
+pub fn extract_accepted(
+    s: &[u8],
+    l: Layout,
+    o: ExtractOptions,
+    out: &mut [u8],
+    work: &mut [u8],
+) -> Extraction
+    requires { ⌜ Accepted (now s) l ⌝ }
+    ensures { λ r. ⌜ Extracts (filtered (pageOf (now (s .entry)) l) o) (pageOf (now (s .entry)) l) o (now (out .entry)) (now (work .entry)) r (now (out .exit)) (now (work .exit)) ⌝ }
+{
+    let mut depths = [0u16; 20000];
+    let mut tags = [0u8; 20000];
+    let mut attributes = [0u32; 20000];
+    let mut values = [0u32; 20000];
+    let mut lengths = [0u32; 20000];
+    let mut left = [false; 20000];
+    let mut stack = [0usize; 501];
+    let mut numbering = [0usize; 1024];
+    let mut cells = [false; 1024];
+    extract_columns(
+        s,
+        l,
+        o,
+        &mut depths,
+        &mut tags,
+        &mut attributes,
+        &mut values,
+        &mut lengths,
+        &mut left,
+        &mut stack,
+        &mut numbering,
+        &mut cells,
+        out,
+        work,
+    )
+}
