@@ -1,1 +1,31 @@
-// The entry points.
+// The entry points. Each comes back for every input with what its statement says; nothing is demanded of the caller.
+use extract::accepted::extract_accepted;
+use html2text::Extraction;
+pub use links::questions::measure_of;
+use options::ExtractOptions;
+pub use patterns::matches;
+use sheet::verdict::Verdict;
+use sheet::verdict::check;
+pub use text::collapse;
+pub use text::escape;
+pub use tree::attributes::attribute_of;
+pub use tree::content::text_length_of;
+pub use tree::questions::first_child_of;
+pub use tree::questions::next_sibling_of;
+pub use tree::questions::parent_of;
+ghost use mathlib.Core.Path.{_≡_};
+ghost use lib.ListN.{length};
+ghost use Rattle.reader.specs.Extraction.{extractionOf, outAfterOf, workAfterOf};
+
+// The text of a page, or why there is none.
+pub fn extract(sheet: &[u8], options: ExtractOptions, out: &mut [u8], work: &mut [u8]) -> Extraction
+    ensures answer { λ r. ⌜ r ≡ extractionOf (now (sheet .entry)) options (length (now (out .entry))) (length (now (work .entry))) ⌝ }
+    ensures text { λ r. ⌜ now (out .exit) ≡ outAfterOf (now (sheet .entry)) options (now (out .entry)) (now (work .entry)) ⌝ }
+    ensures cleared { λ r. ⌜ now (work .exit) ≡ workAfterOf (now (sheet .entry)) options (now (work .entry)) ⌝ }
+{
+    let v = check(sheet);
+    let Verdict::Sheet(l) = v else {
+        return Extraction::Refused(v);
+    };
+    extract_accepted(sheet, l, options, out, work)
+}
