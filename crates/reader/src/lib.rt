@@ -5,7 +5,7 @@ pub use links::questions::measure_of;
 use options::ExtractOptions;
 pub use patterns::matches;
 use sheet::verdict::Verdict;
-use sheet::verdict::check;
+pub use sheet::verdict::check;
 pub use text::collapse;
 pub use text::escape;
 pub use tree::attributes::attribute_of;
