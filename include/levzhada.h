@@ -68,6 +68,16 @@ levzhada_link_measure levzhada_measure(const uint8_t *sheet, size_t sheet_length
  * that is not there. */
 levzhada_answer levzhada_matches(size_t pattern, const uint8_t *text, size_t text_length);
 
+/* The text of a page. options is the option line: ten digits, the first for the formatting (0 Off, 1 Basic, 2 MinimalHtml), then 0
+ * or 1 each for main_content, list_bullets, alt_texts, links, form_fields, comments, post_meta, hidden_elements and icons, and LF;
+ * bytes behind it are not looked at. "1011001100\n" has the standing options.
+ * Refused, in this order: 33, the option line is wrong; 11 to 17, the sheet; 21 and 22 with the node's line, list levels or open
+ * rows pass 1,024; 31 and then 32 with the need, work or out too short.
+ * After a text out holds length bytes of it and zeros behind them, and work is all zero. After a refusal both are unchanged, but
+ * work is all zero after 32. */
+levzhada_answer levzhada_extract(const uint8_t *sheet, size_t sheet_length, const uint8_t *options, size_t options_length, uint8_t *out,
+                                 size_t out_length, uint8_t *work, size_t work_length);
+
 /* Each run of blanks as one space: out holds length bytes of text and zeros behind them. 32 with the need, and out unchanged,
  * where out is too short. */
 levzhada_answer levzhada_collapse(const uint8_t *text, size_t text_length, uint8_t *out, size_t out_length);

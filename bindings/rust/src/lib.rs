@@ -10,6 +10,9 @@
 //! assert_eq!(levzhada::parent(sheet, 1), Err(Refusal::Row(1)));
 //! ```
 
+mod extract;
+
+pub use extract::{extract, Formatting, Options, Text};
 use std::error::Error;
 use std::fmt;
 use std::ops::Range;
@@ -60,6 +63,16 @@ mod raw {
             limit: usize,
         ) -> LinkMeasure;
         pub fn levzhada_matches(pattern: usize, text: *const u8, text_length: usize) -> Answer;
+        pub fn levzhada_extract(
+            sheet: *const u8,
+            sheet_length: usize,
+            options: *const u8,
+            options_length: usize,
+            out: *mut u8,
+            out_length: usize,
+            work: *mut u8,
+            work_length: usize,
+        ) -> Answer;
         pub fn levzhada_collapse(
             text: *const u8,
             text_length: usize,
@@ -77,7 +90,7 @@ mod raw {
 
 /// Why there is no answer: document 01's numbers, each with its second number. The header is line 0, row 0 line 1.
 ///
-/// A buffer that is too short (31, 32) is no refusal here: it grows.
+/// A buffer that is too short (31, 32) is no refusal here: it grows. An option line is never wrong (33): `Options` writes it.
 #[derive(Clone, Copy, Debug, PartialEq, Eq)]
 pub enum Refusal {
     /// 11: the sheet's length is not this one.
@@ -94,6 +107,10 @@ pub enum Refusal {
     Range(usize),
     /// 17: a range of this line is not UTF-8.
     Encoding(usize),
+    /// 21: list levels pass 1,024 at this line.
+    ListLevels(usize),
+    /// 22: open table rows pass 1,024 at this line.
+    OpenRows(usize),
     /// 35: the sheet has no such row or, for the link measure, it is no element.
     Row(usize),
     /// 36: there is no such pattern.
@@ -111,6 +128,8 @@ impl Refusal {
             Refusal::Kind(line) => (15, line),
             Refusal::Range(line) => (16, line),
             Refusal::Encoding(line) => (17, line),
+            Refusal::ListLevels(line) => (21, line),
+            Refusal::OpenRows(line) => (22, line),
             Refusal::Row(row) => (35, row),
             Refusal::Pattern(pattern) => (36, pattern),
         }
@@ -128,6 +147,10 @@ impl fmt::Display for Refusal {
             Refusal::Kind(line) => write!(f, "{number}: the kind of line {line}"),
             Refusal::Range(line) => write!(f, "{number}: a range of line {line}"),
             Refusal::Encoding(line) => write!(f, "{number}: line {line} is not UTF-8"),
+            Refusal::ListLevels(line) => write!(f, "{number}: too many list levels at line {line}"),
+            Refusal::OpenRows(line) => {
+                write!(f, "{number}: too many open table rows at line {line}")
+            }
             Refusal::Row(row) => write!(f, "{number}: row {row} is not there, or no element"),
             Refusal::Pattern(pattern) => write!(f, "{number}: no pattern {pattern}"),
         }
@@ -147,6 +170,8 @@ fn accepted(a: raw::Answer) -> Result<raw::Answer, Refusal> {
         (15, line) => Refusal::Kind(line),
         (16, line) => Refusal::Range(line),
         (17, line) => Refusal::Encoding(line),
+        (21, line) => Refusal::ListLevels(line),
+        (22, line) => Refusal::OpenRows(line),
         (35, row) => Refusal::Row(row),
         (36, pattern) => Refusal::Pattern(pattern),
         (number, second) => unreachable!("no call gives {number} {second}"),

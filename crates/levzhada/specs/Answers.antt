@@ -15,6 +15,14 @@ use Rattle.tree.specs.declared.attributes.AttributeAnswer.{AttributeAnswer}
 use Rattle.tree.specs.declared.attributes.AttributeAnswer.the-variants.{Absent, At, NoRow, Refused}
 use Rattle.levzhada.specs.declared.LinkMeasure.{LinkMeasure}
 use Rattle.levzhada.specs.declared.Range.{Range}
+use Rattle.common.specs.Answer.{Answer, refused}
+use Rattle.common.specs.Bytes.{Bytes}
+use Rattle.html2text.specs.Extract as extract
+use Rattle.options.specs.Line.{lineOf}
+use Rattle.options.specs.declared.ExtractOptions.{ExtractOptions}
+use Rattle.options.specs.declared.line.OptionLine.{OptionLine}
+use Rattle.options.specs.declared.line.OptionLine.the-variants.{Options, Wrong}
+use Rattle.reader.specs.Extraction.{extractionOf, outAfterOf, workAfterOf}
 
 -- an attribute that is there, perhaps empty, is told from one that is not
 abbrev pub presentOf : AttributeAnswer → ℕ
@@ -63,3 +71,18 @@ yesOf rule (measured.the-variants.Refused v) = 0
 
 abbrev pub linkMeasureOf : Rule → MeasureAnswer → LinkMeasure
 linkMeasureOf rule a = record { answer = links.numbers a; exceeds = yesOf rule a; share = shareOf a }
+
+-- ---- an extraction with an option line: 33 comes before the sheet, and changes neither buffer
+
+abbrev pub onLine : {A : Type 0} → (ExtractOptions → A) → A → OptionLine → A
+onLine f wrong (Options o) = f o
+onLine f wrong Wrong = wrong
+
+abbrev pub extractNumbers : Bytes → Bytes → ℕ → ℕ → Answer
+extractNumbers s line out work = onLine (λ o. extract.numbers (extractionOf s o out work)) (refused 33 0) (lineOf line)
+
+abbrev pub extractOut : Bytes → Bytes → Bytes → Bytes → Bytes
+extractOut s line out work = onLine (λ o. outAfterOf s o out work) out (lineOf line)
+
+abbrev pub extractWork : Bytes → Bytes → Bytes → Bytes
+extractWork s line work = onLine (λ o. workAfterOf s o work) work (lineOf line)

@@ -4,24 +4,29 @@ use links::Measure;
 use links::Rule;
 use links::exceeds;
 use links::questions::MeasureAnswer;
-use links::questions::measure_of;
 use numbers::of_attribute;
+use numbers::of_extraction;
 use numbers::of_length;
 use numbers::of_matched;
 use numbers::of_measure;
 use numbers::of_relative;
 use numbers::of_verdict;
 use numbers::of_written;
-use patterns::matches;
-use sheet::verdict::check;
-use text::collapse;
-use text::escape;
+use numbers::refused;
+use options::line::OptionLine;
+use options::line::read_line;
+use reader::attribute_of;
+use reader::check;
+use reader::collapse;
+use reader::escape;
+use reader::extract;
+use reader::first_child_of;
+use reader::matches;
+use reader::measure_of;
+use reader::next_sibling_of;
+use reader::parent_of;
+use reader::text_length_of;
 use tree::attributes::AttributeAnswer;
-use tree::attributes::attribute_of;
-use tree::content::text_length_of;
-use tree::questions::first_child_of;
-use tree::questions::next_sibling_of;
-use tree::questions::parent_of;
 ghost use mathlib.Core.Path.{_≡_};
 ghost use lib.ListN.{length};
 ghost use Rattle.common.specs.Answer.{outAfter, writtenIn};
@@ -34,7 +39,7 @@ ghost use Rattle.tree.specs.Attributes.{attributeOf};
 ghost use Rattle.tree.specs.Questions.{relativeNumbers};
 ghost use Rattle.tree.specs.Rows.{firstChildOf, nextSiblingOf};
 ghost use Rattle.tree.specs.TextLength.{lengthNumbers};
-ghost use Rattle.levzhada.specs.Answers.{linkMeasureOf, rangeOf, ruleOf, shareIn, yesIn};
+ghost use Rattle.levzhada.specs.Answers.{extractNumbers, extractOut, extractWork, linkMeasureOf, rangeOf, ruleOf, shareIn, yesIn};
 
 // An attribute's range in the pool: present is 1 where there is one, and its length is the answer's.
 #[repr(C)]
@@ -57,6 +62,24 @@ pub extern "C" fn levzhada_check(sheet: &[u8]) -> Answer
     ensures { λ r. ⌜ r ≡ numbers (verdictOf 8 (now (sheet .entry))) ⌝ }
 {
     of_verdict(check(sheet))
+}
+
+// options: the option line, ten digits and LF; what follows it is not looked at.
+#[no_mangle]
+pub extern "C" fn levzhada_extract(
+    sheet: &[u8],
+    options: &[u8],
+    out: &mut [u8],
+    work: &mut [u8],
+) -> Answer
+    ensures answer { λ r. ⌜ r ≡ extractNumbers (now (sheet .entry)) (now (options .entry)) (length (now (out .entry))) (length (now (work .entry))) ⌝ }
+    ensures text { λ r. ⌜ now (out .exit) ≡ extractOut (now (sheet .entry)) (now (options .entry)) (now (out .entry)) (now (work .entry)) ⌝ }
+    ensures cleared { λ r. ⌜ now (work .exit) ≡ extractWork (now (sheet .entry)) (now (options .entry)) (now (work .entry)) ⌝ }
+{
+    let OptionLine::Options(o) = read_line(options) else {
+        return refused(33, 0);
+    };
+    of_extraction(extract(sheet, o, out, work))
 }
 
 #[no_mangle]

@@ -1,0 +1,13 @@
+//! Prints the text of a sheet, with the standing options: cargo run --example read_sheet FILE
+
+use std::error::Error;
+use std::io::Write;
+
+fn main() -> Result<(), Box<dyn Error>> {
+    let file = std::env::args_os().nth(1).ok_or("read_sheet FILE")?;
+    let text = levzhada::extract(&std::fs::read(file)?, &levzhada::Options::default())?;
+    let mut out = std::io::stdout().lock();
+    out.write_all(&text.bytes)?;
+    out.write_all(b"\n")?;
+    Ok(())
+}

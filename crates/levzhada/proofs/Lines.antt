@@ -1,0 +1,24 @@
+-- An extraction with an option line, by what the line is.
+use mathlib.Core.Path.{_≡_, sym, ap, _∙_}
+use Prim.Native.Nat.{ℕ}
+use lib.ListN.{length}
+use Rattle.common.specs.Answer.{Answer, refused}
+use Rattle.common.specs.Bytes.{Bytes}
+use Rattle.html2text.specs.Extract as extract
+use Rattle.html2text.specs.declared.Extraction.{Extraction}
+use Rattle.options.specs.Line.{lineOf}
+use Rattle.options.specs.declared.ExtractOptions.{ExtractOptions}
+use Rattle.options.specs.declared.line.OptionLine.{OptionLine}
+use Rattle.options.specs.declared.line.OptionLine.the-variants.{Options, Wrong}
+use Rattle.reader.specs.Extraction.{extractionOf, outAfterOf, workAfterOf}
+use Rattle.levzhada.specs.Answers.{extractNumbers, extractOut, extractWork}
+
+module _ (s line out work : Bytes) where
+  pub by-line : {o : ExtractOptions} {e : Extraction} {a : Answer} {out′ work′ : Bytes} → Options o ≡ lineOf line → a ≡ extract.numbers e
+      → (e ≡ extractionOf s o (length out) (length work)) × (out′ ≡ outAfterOf s o out work) × (work′ ≡ workAfterOf s o work)
+      → (a ≡ extractNumbers s line (length out) (length work)) × (out′ ≡ extractOut s line out work) × (work′ ≡ extractWork s line work)
+  by-line l n x = (rw (← l) (n ∙ ap extract.numbers (x .0)), rw (← l) (x .1), rw (← l) (x .2))
+
+  pub wrong-line : {a : Answer} → Wrong ≡ lineOf line → a ≡ refused 33 0
+      → (a ≡ extractNumbers s line (length out) (length work)) × (out ≡ extractOut s line out work) × (work ≡ extractWork s line work)
+  wrong-line l n = (rw (← l) n, rw (← l), rw (← l))
