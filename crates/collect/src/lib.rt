@@ -10,19 +10,19 @@ use writer::Writer;
 // has children, and its depth below the root.
 pub struct Visit {
     pub row: usize,
-    pub tag: u8,
     pub first: usize,
     pub value_at: usize,
     pub value_len: usize,
-    pub children: bool,
     pub depth: usize,
+    pub tag: u8,
+    pub children: bool,
     pub end: bool,
 }
 
 // The entry that is open, if any: the line of the row that pushed it, its node, and its text's lengths.
 pub struct OpenEntry {
-    pub any: bool,
     pub line: usize,
-    pub node: ExtractNode,
     pub note: Writer,
+    pub node: ExtractNode,
+    pub any: bool,
 }

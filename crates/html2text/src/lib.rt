@@ -3,10 +3,10 @@ use sheet::verdict::Verdict;
 
 // `ExtractNode` of html2text.rs, with the number of its tag, and without its text.
 pub struct ExtractNode {
-    pub tag: u8,
-    pub has_children: bool,
     pub depth: usize,
     pub pre_depth: usize,
+    pub tag: u8,
+    pub has_children: bool,
     pub collapse_margins: bool,
     pub block: bool,
     pub big_block: bool,

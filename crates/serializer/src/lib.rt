@@ -42,12 +42,12 @@ pub enum Prefix {
 // The state of `serialize`. `numbering` and `row_has_cell` are lent; their first `depth` and `rows` elements are in use.
 pub struct Serializer {
     pub writer: Writer,
-    pub prefix: Prefix,
-    pub bullet: bool,
     pub depth: usize,
     pub margins: usize,
     pub uncollapsed: usize,
     pub rows: usize,
+    pub prefix: Prefix,
+    pub bullet: bool,
 }
 
 impl Serializer {
