@@ -70,8 +70,46 @@ fn extract_columns(
     )
 }
 
+// A page of few rows, for which long columns need not be cleared.
+fn extract_small(
+    s: &[u8],
+    l: Layout,
+    o: ExtractOptions,
+    out: &mut [u8],
+    work: &mut [u8],
+) -> Extraction
+    requires { ⌜ Accepted (now s) l × (l .nodes ≤ 256) ⌝ }
+    ensures { λ r. ⌜ Extracts (filtered (pageOf (now (s .entry)) l) o) (pageOf (now (s .entry)) l) o (now (out .entry)) (now (work .entry)) r (now (out .exit)) (now (work .exit)) ⌝ }
+{
+    let mut depths = [0u16; 256];
+    let mut tags = [0u8; 256];
+    let mut attributes = [0u32; 256];
+    let mut values = [0u32; 256];
+    let mut lengths = [0u32; 256];
+    let mut left = [false; 256];
+    let mut stack = [0usize; 501];
+    let mut numbering = [0usize; 1024];
+    let mut cells = [false; 1024];
+    extract_columns(
+        s,
+        l,
+        o,
+        &mut depths,
+        &mut tags,
+        &mut attributes,
+        &mut values,
+        &mut lengths,
+        &mut left,
+        &mut stack,
+        &mut numbering,
+        &mut cells,
+        out,
+        work,
+    )
+}
+
 // "N 1 to 20,000", "depth to 500; list levels to 1,024; open rows to 1,024"
-pub fn extract_accepted(
+fn extract_large(
     s: &[u8],
     l: Layout,
     o: ExtractOptions,
@@ -106,4 +144,20 @@ pub fn extract_accepted(
         out,
         work,
     )
+}
+
+pub fn extract_accepted(
+    s: &[u8],
+    l: Layout,
+    o: ExtractOptions,
+    out: &mut [u8],
+    work: &mut [u8],
+) -> Extraction
+    requires { ⌜ Accepted (now s) l ⌝ }
+    ensures { λ r. ⌜ Extracts (filtered (pageOf (now (s .entry)) l) o) (pageOf (now (s .entry)) l) o (now (out .entry)) (now (work .entry)) r (now (out .exit)) (now (work .exit)) ⌝ }
+{
+    if l.nodes <= 256 {
+        return extract_small(s, l, o, out, work);
+    }
+    extract_large(s, l, o, out, work)
 }

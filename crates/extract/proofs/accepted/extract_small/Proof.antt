@@ -1,10 +1,10 @@
--- `accepted::extract_accepted` meets its contract.
+-- `accepted::extract_small` meets its contract.
 use native.Mathlib.Omega.{arith}
 use borrow.Author.Needs.{needs}
-use Rattle.extract.proofs.accepted.extract_accepted.Statement.{statement}
-use Rattle.extract.proofs.accepted.extract_accepted.Tie as tie
-use Rattle.extract.proofs.accepted.extract_accepted.Reads as reads
-use Rattle.extract.proofs.accepted.extract_accepted.Lts as lts
+use Rattle.extract.proofs.accepted.extract_small.Statement.{statement}
+use Rattle.extract.proofs.accepted.extract_small.Tie as tie
+use Rattle.extract.proofs.accepted.extract_small.Reads as reads
+use Rattle.extract.proofs.accepted.extract_small.Lts as lts
 use Rattle.extract.proofs.accepted.extract_columns.Reads as extract-columns-reads
 
 -- src/accepted.rt:97:9
@@ -45,7 +45,7 @@ slice-aggregate-extract-columns-9 c = search needs
 
 -- src/accepted.rt:93:5
 extract-columns-requires : tie.Need-extract-columns-requires
-extract-columns-requires c κs = let n = c .before .before .before .before .before .before .before .before .before .before .before .before .before .before .pre .sized .nodes in ((c .before .before .before .before .before .before .before .before .before .before .before .before .before .before .pre, record { depths-long = omega (arith, n); tags-long = omega (arith, n); attributes-long = omega (arith, n); values-long = omega (arith, n); lengths-long = omega (arith, n); left-long = omega (arith, n) }), (omega arith, omega arith, omega arith))
+extract-columns-requires c κs = let n = c .before .before .before .before .before .before .before .before .before .before .before .before .before .before .pre .1 in ((c .before .before .before .before .before .before .before .before .before .before .before .before .before .before .pre .0, record { depths-long = omega (arith, n); tags-long = omega (arith, n); attributes-long = omega (arith, n); values-long = omega (arith, n); lengths-long = omega (arith, n); left-long = omega (arith, n) }), (omega arith, omega arith, omega arith))
 
 -- src/accepted.rt:74:1
 same-length : tie.Need-same-length
@@ -59,8 +59,8 @@ same-length-2 c = search needs
 returns : tie.Need-returns
 returns c = search needs
 
-pub extract-accepted-spec : {M : Type 1} → statement M
-extract-accepted-spec =
+pub extract-small-spec : {M : Type 1} → statement M
+extract-small-spec =
     tie.close
     (tie.spec
     slice-aggregate-extract-columns
