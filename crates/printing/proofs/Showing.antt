@@ -18,6 +18,9 @@ use Rattle.html2text.specs.declared.Extraction.the-variants.{Text, Refused, Lis
 use Rattle.sheet.proofs.WritingColumns.{line-length}
 use Rattle.printing.specs.Printed.{answerLine, textIn, shown}
 
+pub puts-as : {before s t after : Bytes} {past : ℕ} → Puts before 0 s after past → s ≡ t → Puts before 0 t after past
+puts-as {before} {s} {t} {after} {past} p e = subst (λ (x : Bytes). Puts before 0 x after past) e p
+
 -- an extraction that is not a text, by the number of its case
 abbrev NoText : Extraction → Type 0
 NoText e = OneOf (1 ∷ 2 ∷ 3 ∷ 4 ∷ 5 ∷ []) (tagOf the-type e)
@@ -34,14 +37,12 @@ module _ (e : Extraction) (out : Bytes) {a : Answer} (n : a ≡ numbers e) {befo
   pub shown-numbers : NoText e → Puts before 0 (shown e out) middle at
   unfolding shown
   shown-numbers k =
-      subst (λ (s : Bytes). Puts before 0 s middle at)
-      (sym (append-nil (answerLine a)) ∙ ap₂ (λ (x : Answer) (s : Bytes). answerLine x ++ s) n (sym (no-text e out k))) p
+      puts-as p (sym (append-nil (answerLine a)) ∙ ap₂ (λ (x : Answer) (s : Bytes). answerLine x ++ s) n (sym (no-text e out k)))
 
   pub shown-text : {visits len : ℕ} {after : Bytes} {past : ℕ} → e ≡ Text visits len → Puts middle at (take len out ++ 10 ∷ []) after past → Puts before 0 (shown e out) after past
   unfolding shown
-  shown-text {visits} {len} {after} {past} k q =
-      subst (λ (s : Bytes). Puts before 0 s after past)
-      (ap₂ (λ (x : Answer) (s : Bytes). answerLine x ++ s) n (sym (ap (λ (x : Extraction). textIn x out) k))) (puts-then p q)
+  shown-text k q =
+      puts-as (puts-then p q) (ap₂ (λ (x : Answer) (s : Bytes). answerLine x ++ s) n (sym (ap (λ (x : Extraction). textIn x out) k)))
 
   -- behind the line of numbers there is room for the text
   pub text-room : {len : ℕ} → 33 + length out + 1 ≤ length before → len ≤ length out → at + length (take len out) + 1 ≤ length middle
