@@ -19,7 +19,7 @@ ghost use Rattle.common.specs.Puts.{Puts};
 ghost use Rattle.printing.specs.Printed.{answered, answerLine, printed, room, shown, TextFits, zeros};
 
 // No longer input is taken; out and work have as many bytes.
-const ROOM: usize = 16384;
+pub const ROOM: usize = 16384;
 
 // The most that is printed: the line of numbers, a text that fills out, LF.
 pub const LONGEST: usize = 16418;
@@ -72,7 +72,8 @@ fn put_sheet(
     work: &mut [u8],
 ) -> usize
     requires { ⌜ (now out ≡ zeros) × (now work ≡ zeros) × (33 + room + 1 ≤ length (now to)) ⌝ }
-    ensures { λ r. ⌜ Puts (now (to .entry)) 0 (answered (now (sheet .entry)) o) (now (to .exit)) r ⌝ }
+    ensures stored { λ r. ⌜ Puts (now (to .entry)) 0 (answered (now (sheet .entry)) o) (now (to .exit)) r ⌝ }
+    ensures within { λ r. ⌜ r ≤ length (now (to .exit)) ⌝ }
 {
     let e = extract(sheet, o, out, work);
     put_extraction(to, e, out)
@@ -81,7 +82,8 @@ fn put_sheet(
 // The same, by buffers of its own.
 fn put_answered(to: &mut [u8], sheet: &[u8], o: ExtractOptions) -> usize
     requires { ⌜ 33 + room + 1 ≤ length (now to) ⌝ }
-    ensures { λ r. ⌜ Puts (now (to .entry)) 0 (answered (now (sheet .entry)) o) (now (to .exit)) r ⌝ }
+    ensures stored { λ r. ⌜ Puts (now (to .entry)) 0 (answered (now (sheet .entry)) o) (now (to .exit)) r ⌝ }
+    ensures within { λ r. ⌜ r ≤ length (now (to .exit)) ⌝ }
 {
     let mut out = [0; ROOM];
     let mut work = [0; ROOM];
@@ -90,7 +92,8 @@ fn put_answered(to: &mut [u8], sheet: &[u8], o: ExtractOptions) -> usize
 
 fn put_printed(to: &mut [u8], input: &[u8]) -> usize
     requires { ⌜ 33 + room + 1 ≤ length (now to) ⌝ }
-    ensures { λ r. ⌜ Puts (now (to .entry)) 0 (printed (now (input .entry))) (now (to .exit)) r ⌝ }
+    ensures stored { λ r. ⌜ Puts (now (to .entry)) 0 (printed (now (input .entry))) (now (to .exit)) r ⌝ }
+    ensures within { λ r. ⌜ r ≤ length (now (to .exit)) ⌝ }
 {
     if input.len() > ROOM {
         return put_answer(to, refused(34, 0));
@@ -104,7 +107,8 @@ fn put_printed(to: &mut [u8], input: &[u8]) -> usize
 
 // What the program prints for an input, stored from the start of the lent array on; the place behind it.
 pub fn print(input: &[u8], to: &mut [u8; LONGEST]) -> usize
-    ensures { λ r. ⌜ Puts (now (to .entry)) 0 (printed (now (input .entry))) (now (to .exit)) r ⌝ }
+    ensures stored { λ r. ⌜ Puts (now (to .entry)) 0 (printed (now (input .entry))) (now (to .exit)) r ⌝ }
+    ensures within { λ r. ⌜ r ≤ length (now (to .exit)) ⌝ }
 {
     put_printed(to, input)
 }

@@ -15,7 +15,7 @@ same-length : tie.Need-same-length
 same-length c = search needs
 
 returns : tie.Need-returns
-returns c = printed-long _ (c .before .before .before .before .before .if1 .taken) (c .before .before .before .refused .ensures) (c .before .before .put-answer .ensures)
+returns c = printed-long _ _ (c .before .before .before .before .before .before .before .before .pre) (c .before .before .before .before .before .if1 .taken) (c .before .before .before .refused .ensures) (c .before .before .put-answer .ensures)
 
 read-line-requires : tie.Need-read-line-requires
 read-line-requires c κs = search needs
@@ -36,7 +36,7 @@ same-length-2 : tie.Need-same-length-2
 same-length-2 c = search needs
 
 returns-2 : tie.Need-returns-2
-returns-2 c = printed-wrong _ (c .before .before .before .before .before .before .before .before .if1 .left) (c .before .before .before .before .before .before .before .read-line .ensures) (c .before .before .before .before .before .enum-told .given .1) (c .before .before .before .of-line .ensures) (c .before .before .put-answer2 .ensures)
+returns-2 c = printed-wrong _ (c .before .before .before .before .before .before .before .before .if1 .left) (c .before .before .before .before .before .before .before .read-line .ensures) _ (c .before .before .before .before .before .before .before .before .before .before .before .pre) (c .before .before .before .before .before .enum-told .given .1) (c .before .before .before .of-line .ensures) (c .before .before .put-answer2 .ensures)
 
 sub-put-answered : tie.Need-sub-put-answered
 sub-put-answered c = line-there _ (sym (c .before .before .before .before .read-line .ensures) ∙ c .before .before .line .given .1)
@@ -54,7 +54,7 @@ same-length-3 : tie.Need-same-length-3
 same-length-3 c = search needs
 
 returns-3 : tie.Need-returns-3
-returns-3 c = printed-sheet _ (c .before .before .before .before .before .before .before .before .before .if1 .left) (c .before .before .before .before .before .before .before .before .read-line .ensures) (c .before .before .before .before .before .before .line .given .1) (c .before .before .put-answered .ensures)
+returns-3 c = (printed-sheet _ (c .before .before .before .before .before .before .before .before .before .if1 .left) (c .before .before .before .before .before .before .before .before .read-line .ensures) (c .before .before .before .before .before .before .line .given .1) (c .before .before .put-answered .ensures .0), c .before .before .put-answered .ensures .1)
 
 pub put-printed-spec : {M : Type 1} → statement M
 put-printed-spec =

@@ -20,7 +20,7 @@ same-length-3 : tie.Need-same-length-3
 same-length-3 c = search needs
 
 returns : tie.Need-returns
-returns c = sheet-shown _ _ (c .before .before .before .before .before .before .before .before .before .before .before .before .before .before .before .before .pre .0, c .before .before .before .before .before .before .before .before .before .before .before .before .before .before .before .before .pre .1) (c .before .before .before .before .before .before .before .before .before .extract .ensures .0) (c .before .before .before .before .before .before .before .before .before .extract .ensures .1 .0) (c .before .before .put-extraction .ensures)
+returns c = sheet-shown _ _ (c .before .before .before .before .before .before .before .before .before .before .before .before .before .before .before .before .pre .0, c .before .before .before .before .before .before .before .before .before .before .before .before .before .before .before .before .pre .1) (c .before .before .before .before .before .before .before .before .before .extract .ensures .0) (c .before .before .before .before .before .before .before .before .before .extract .ensures .1 .0) (c .before .before .before .before .before .before .before .before .before .extract .kept .1 .1 .0) (c .before .before .before .before .before .before .before .before .before .before .before .before .before .before .before .before .pre .2) (c .before .before .put-extraction .ensures)
 
 pub put-sheet-spec : {M : Type 1} → statement M
 put-sheet-spec =
