@@ -8,8 +8,8 @@ use Rattle.printing.proofs.put_text.Tie as tie
 put-requires : tie.Need-put-requires
 put-requires c κs = search needs
 
-slice-write-printed : tie.Need-slice-write-printed
-slice-write-printed c = search needs
+slice-write-to : tie.Need-slice-write-to
+slice-write-to c = search needs
 
 add-result : tie.Need-add-result
 add-result c = search needs
@@ -22,4 +22,4 @@ returns c = puts-then (c .before .before .put .ensures) (puts-one _ refl)
 
 pub put-text-spec : {M : Type 1} → statement M
 put-text-spec =
-    tie.close (tie.spec put-requires slice-write-printed add-result same-length returns)
+    tie.close (tie.spec put-requires slice-write-to add-result same-length returns)
