@@ -118,10 +118,10 @@ fn handbook(rows: usize) -> Vec<u8> {
     w.bytes()
 }
 
-fn deep() -> Vec<u8> {
+fn deep(rows: usize) -> Vec<u8> {
     let random = &mut Random(2);
     let mut w = page();
-    while w.counts[0] + 500 < 20_000 {
+    while w.counts[0] + 500 < rows {
         for depth in 1..400 {
             w.element(depth, if depth % 3 == 0 { "section" } else { "div" }, &[]);
             if depth % 20 == 0 {
@@ -129,6 +129,17 @@ fn deep() -> Vec<u8> {
             }
         }
         w.text(400, &prose(random, 8));
+    }
+    w.bytes()
+}
+
+/// Paragraphs, one beside the other.
+fn wide(rows: usize) -> Vec<u8> {
+    let random = &mut Random(7);
+    let mut w = page();
+    while w.counts[0] + 2 < rows {
+        w.element(1, "p", &[]);
+        w.text(2, &prose(random, 6));
     }
     w.bytes()
 }
@@ -313,8 +324,12 @@ fn main() {
     measure("handbook, 20,000", one(standing, handbook(20_000)));
     measure("handbook, 20,000, MinimalHtml", one(html, handbook(20_000)));
     measure("handbook, 20,000, main_content", one(main_content, handbook(20_000)));
-    measure("deep", one(standing, deep()));
-    measure("deep, main_content", one(main_content, deep()));
+    for rows in [5_000, 10_000, 20_000] {
+        measure(&format!("wide, {}", rows), one(standing, wide(rows)));
+        measure(&format!("wide, {}, main_content", rows), one(main_content, wide(rows)));
+        measure(&format!("deep, {}", rows), one(standing, deep(rows)));
+        measure(&format!("deep, {}, main_content", rows), one(main_content, deep(rows)));
+    }
     measure("tables", one(standing, tables()));
     measure("lists", one(standing, lists()));
     measure("lists, MinimalHtml", one(html, lists()));
