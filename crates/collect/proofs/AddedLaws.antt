@@ -7,7 +7,7 @@ use native.Mathlib.Omega.{arith}
 use lib.Dec.{eqb}
 use lib.ListN.{length, take, drop}
 use borrow.Author.Tests.{eqb-true, eqb-false}
-use Rattle.common.specs.Bytes.{Bytes, codes, same}
+use Rattle.common.specs.Bytes.{Bytes, codes, same, isEmpty}
 use Rattle.common.proofs.Choice.{by-test, and-parts, absurd-test}
 use Rattle.options.specs.Options.{isBasic, isMinimalHtml}
 use Rattle.options.specs.declared.ExtractOptions.{ExtractOptions}
@@ -24,7 +24,6 @@ use Rattle.tree.proofs.NodeLaws.{by-kind, tag-of-other}
 use Rattle.tree.proofs.PageLaws.{not-element}
 use Rattle.writer.specs.Shown.{escapedIf}
 use Rattle.html2text.specs.Collect.{tagNumber, attr, isBreak, isLink, linkText, isUnshownType, fieldValue, addedByElement, added}
-use Rattle.html2text.specs.Serialize.{isEmpty}
 use Rattle.collect.specs.Visits.{Visits, fieldText, inputText}
 use Rattle.collect.specs.declared.Visit.{Visit}
 

@@ -3,7 +3,7 @@ use mathlib.Core.Path.{_≡_}
 use mathlib.Core.Bool.{cond}
 use mathlib.Core.List.{[], _++_}
 use Prim.Native.Nat.{_<_}
-use Rattle.common.specs.Bytes.{Bytes, codes}
+use Rattle.common.specs.Bytes.{Bytes, codes, isEmpty}
 use Rattle.sheet.specs.Accepted.{Accepted}
 use Rattle.sheet.specs.Layout.{rowAt}
 use Rattle.sheet.specs.Verdict.{countsFrom}
@@ -12,7 +12,6 @@ use Rattle.text.specs.Text.{trim}
 use Rattle.tree.specs.Node.{comment, Node}
 use Rattle.tree.specs.Page.{nodeAt}
 use Rattle.html2text.specs.Collect.{Event, tagNumber, attr, isUnshownType, fieldValue}
-use Rattle.html2text.specs.Serialize.{isEmpty}
 use Rattle.collect.specs.declared.Visit.{Visit}
 
 -- the visit's numbers are those of its row, which is no comment

@@ -4,3 +4,4 @@ pub mod Equality
 pub mod Every
 pub mod Parts
 pub mod Puts
+pub mod TestLaws

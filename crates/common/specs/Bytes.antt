@@ -26,3 +26,8 @@ same (c ∷ s) (d ∷ t) = elim (eqb c d) [ true ↦ same s t | false ↦ false 
 -- a text and zeros behind it, n bytes in all
 abbrev pub padded : Bytes → ℕ → Bytes
 padded text n = text ++ replicate (n - length text) 0
+
+-- `s.is_empty()`
+abbrev pub isEmpty : Bytes → Bool
+isEmpty [] = true
+isEmpty (c ∷ s) = false

@@ -13,7 +13,7 @@ use Rattle.common.specs.Bytes.{Bytes}
 use Rattle.common.proofs.Choice.{and-parts}
 use Rattle.patterns.specs.Match.{matchesOf}
 use Rattle.filters.specs.Classes.{anyMatch, ArePatterns}
-use Rattle.filters.proofs.TestLaws.{or-yes, or-no}
+use Rattle.common.proofs.TestLaws.{or-yes, or-no}
 
 any-yes : (p : ℕ) (ps : List ℕ) (s : Bytes) → matchesOf p s ≡ true → true ≡ anyMatch (p ∷ ps) s
 unfolding anyMatch

@@ -9,7 +9,7 @@ use lib.ListN.{length, getD}
 use borrow.Author.Tests.{le-leb, lt-leb}
 use Rattle.common.specs.Bytes.{Bytes, same}
 use Rattle.filters.specs.Icon.{inLegacyRange, inPrivateUse, ofThree, isPilcrow, isIcon}
-use Rattle.filters.proofs.TestLaws.{or-yes, or-no, and-no, and-yes}
+use Rattle.common.proofs.TestLaws.{or-yes, or-no, and-no, and-yes}
 
 three-bytes : (test : ℕ → ℕ → ℕ → Bool) (s : Bytes) → length s ≡ 3 → ofThree test s ≡ test (getD s 0 0) (getD s 1 0) (getD s 2 0)
 three-bytes test [] h = absurd (omega arith)

@@ -7,5 +7,4 @@ pub mod NameLaws
 pub mod PrivateUse
 pub mod RowLaws
 pub mod StageLaws
-pub mod TestLaws
 pub mod ValueLaws

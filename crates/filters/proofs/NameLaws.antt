@@ -14,7 +14,7 @@ use Rattle.tags.specs.Words.{words, firstWord, otherWords, is, oneOf, numberFro
 use Rattle.tags.proofs.TagLaws.{known, unknown, tells, told, told-one, tag-tests}
 use Rattle.tags.proofs.WordLaws.{each, each-at, beq-true, one-of-cons, one-word, none-of, none-of-none}
 use Rattle.filters.specs.Filters.{notBlock}
-use Rattle.filters.proofs.TestLaws.{or-no, and-no, and-yes}
+use Rattle.common.proofs.TestLaws.{or-no, and-no, and-yes}
 
 module _ (name : Bytes) {tag : ℕ} (tag-is : tag ≡ tagOf name) where
   is-numbered : (n : ℕ) (w : Bytes) → tells (λ t. eqb t n) (w ∷ []) ≡ true → eqb tag n ≡ same name w

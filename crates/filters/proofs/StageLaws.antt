@@ -5,7 +5,7 @@ use mathlib.Core.List.{List, [], _∷_}
 use Prim.Native.Nat.{ℕ}
 use lib.Dec.{leb, eqb, eqb·suc-zero}
 use lib.ListN.{getD, length}
-use Rattle.common.specs.Bytes.{Bytes}
+use Rattle.common.specs.Bytes.{Bytes, isEmpty}
 use Rattle.links.specs.Links.{threeFifthsOf800}
 use Rattle.links.specs.declared.Rule.{Rule}
 use Rattle.options.specs.declared.ExtractOptions.{ExtractOptions}
@@ -21,7 +21,7 @@ use Rattle.tree.specs.Node.{Attribute, tag}
 use Rattle.tree.specs.Page.{nodeAt}
 use Rattle.tree.proofs.NodeLaws.{tag-of-element}
 use Rattle.tree.proofs.PageLaws.{is-element, name-is, value-is}
-use Rattle.filters.specs.Filters.{isEmpty, hiddenByAttribute, notDisplayed, byClassAndId, byAttributes, byName, isMainContent}
+use Rattle.filters.specs.Filters.{hiddenByAttribute, notDisplayed, byClassAndId, byAttributes, byName, isMainContent}
 use Rattle.filters.specs.Gathered.{slotValue, Gathered}
 use Rattle.filters.specs.Icon.{isIcon}
 use Rattle.filters.proofs.RowLaws.{row-text, row-comment}

@@ -6,7 +6,7 @@ use Prim.Native.Nat.{ℕ, _-_}
 use Prim.Native.String.{String}
 use lib.Dec.{leb, ltb}
 use lib.ListN.{getD}
-use Rattle.common.specs.Bytes.{Bytes, codes}
+use Rattle.common.specs.Bytes.{Bytes, codes, isEmpty}
 use Rattle.links.specs.Links.{linkCluster, fifthOfAny, fifthOf500, threeFifthsOf800, threeFifthsOf1500}
 use Rattle.links.specs.declared.Rule.{Rule}
 use Rattle.options.specs.declared.ExtractOptions.{ExtractOptions}
@@ -38,10 +38,6 @@ attr attributes name = attributeOrEmpty attributes (codes name)
 -- `matches!(trim(&attr(node, name)), ..)`
 abbrev pub attrAmong : List Attribute → String → String → Bool
 attrAmong attributes name values = oneOf (trim (attr attributes name)) (words values)
-
-abbrev pub isEmpty : Bytes → Bool
-isEmpty [] = true
-isEmpty (c ∷ s) = false
 
 -- ---- the tests
 

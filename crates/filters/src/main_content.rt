@@ -31,7 +31,7 @@ ghost use mathlib.Core.Bool.{_&&_};
 ghost use mathlib.Core.List.{List};
 ghost use mathlib.Core.Path.{_≡_};
 ghost use Prim.Native.Nat.{ℕ, _+_, _≤_, _<_};
-ghost use Rattle.common.specs.Bytes.{Bytes};
+ghost use Rattle.common.specs.Bytes.{Bytes, isEmpty};
 ghost use Rattle.patterns.specs.Candidates.{Candidates};
 ghost use Rattle.regex.specs.Joined.{joined};
 ghost use Rattle.sheet.specs.Accepted.{Accepted};
@@ -43,7 +43,7 @@ ghost use Rattle.tree.specs.Attributes.{attributesFrom};
 ghost use Rattle.tree.specs.Node.{Attribute};
 ghost use Rattle.tree.specs.Page.{nodeAt};
 ghost use Rattle.filters.specs.Classes.{Joinable, Tables};
-ghost use Rattle.filters.specs.Filters.{byAttributes, byBlock, byClassAndId, byName, isEmpty, isMainContent, logoOrAd};
+ghost use Rattle.filters.specs.Filters.{byAttributes, byBlock, byClassAndId, byName, isMainContent, logoOrAd};
 ghost use Rattle.filters.specs.Gathered.{Gathered, Readable};
 ghost use Rattle.filters.specs.Sheet.{clusterAt, tagNumber};
 

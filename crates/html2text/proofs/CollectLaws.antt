@@ -13,7 +13,7 @@ use Rattle.text.specs.Text.{isSpace, struckBy, struck}
 use Rattle.text.proofs.StruckLaws.{struck-append}
 use Rattle.html2text.specs.Collect.{Event, Entry, tagNumber, isLink, pushes, pushed, added, amended, onLast, collect, collectAll}
 use Rattle.html2text.proofs.OffLaws.{off, isCellEnd, kept, Plain}
-use Rattle.html2text.proofs.OrLaws.{or-left, or-right}
+use Rattle.common.proofs.TestLaws.{or-left, or-right}
 use Rattle.html2text.proofs.SaidLaws.{said, added-said}
 
 pub collect-all-append : (o : ExtractOptions) (es : List Entry) (a b : List Event) → collectAll o es (a ++ b) ≡ collectAll o (collectAll o es a) b

@@ -20,7 +20,7 @@ use Rattle.html2text.proofs.CollectLaws.{plain-all}
 use Rattle.html2text.proofs.FurtherPieces.{further, further-pieces}
 use Rattle.html2text.proofs.LostStrip.{kept-pieces}
 use Rattle.html2text.proofs.OffLaws.{off, Written, serialized-off}
-use Rattle.html2text.proofs.OrLaws.{or-left}
+use Rattle.common.proofs.TestLaws.{or-left}
 use Rattle.html2text.proofs.Standing.{page-parents, page-cells}
 
 off-same : (o : ExtractOptions) → o .formatting ≡ Off → o ≡ off o

@@ -9,7 +9,7 @@ use Rattle.tree.specs.Forest.{Forest, empty, node}
 use Rattle.tree.specs.Node.{Node}
 use Rattle.html2text.specs.Pieces.{Piece, rowPieces, along, pieces, anyOf, without}
 use Rattle.html2text.specs.Walk.{isComment, hasTrees, leftOut}
-use Rattle.html2text.proofs.OrLaws.{or-left, or-right}
+use Rattle.common.proofs.TestLaws.{or-left, or-right}
 
 module _ (test : ℕ → Bool) where
   without-append : (a b : List Piece) → without test (a ++ b) ≡ without test a ++ without test b

@@ -7,14 +7,14 @@ use native.Mathlib.Omega.{arith}
 use lib.Dec.{eqb, ltb}
 use lib.ListN.{length, getD, length-append, length-set, length-take}
 use borrow.Author.Tests.{eqb-true}
-use Rattle.common.specs.Bytes.{Bytes}
+use Rattle.common.specs.Bytes.{Bytes, isEmpty}
 use Rattle.common.proofs.Choice.{by-cond, and-parts}
 use Rattle.options.specs.Options.{isOff}
 use Rattle.options.specs.declared.Formatting.{Formatting}
 use Rattle.options.specs.declared.Formatting.the-variants.{Off, Basic, MinimalHtml}
 use Rattle.tags.specs.Tags.{isTr, isCell, isOl, isLi, isPre, isBr}
 use Rattle.html2text.specs.Levels.{recounted, rowsAfter, StepLevels}
-use Rattle.html2text.specs.Serialize.{State, one, withPrefix, withBullet, withLevels, withMargins, withRows, withUncollapsed, pop, isEmpty, collapses, margin, rows, besideCell, inRow, cell, countUncollapsed, changesLevel, level, numberOf, item, htmlItem, htmlPre, htmlBr, htmlMarks, wantsTag, opensTag, tagMargins, beforeTag, htmlTag, blockAfterMarks, blockAfterTag, blockMargin, trims, shortened, indentText, lead, putText, afterOff, afterBasic, finishHtml, afterHtml, stepBy, after, step}
+use Rattle.html2text.specs.Serialize.{State, one, withPrefix, withBullet, withLevels, withMargins, withRows, withUncollapsed, pop, collapses, margin, rows, besideCell, inRow, cell, countUncollapsed, changesLevel, level, numberOf, item, htmlItem, htmlPre, htmlBr, htmlMarks, wantsTag, opensTag, tagMargins, beforeTag, htmlTag, blockAfterMarks, blockAfterTag, blockMargin, trims, shortened, indentText, lead, putText, afterOff, afterBasic, finishHtml, afterHtml, stepBy, after, step}
 use Rattle.html2text.specs.declared.ExtractNode.{ExtractNode}
 
 -- ---- the three numbers of a state, and the parts of a step that change none of them

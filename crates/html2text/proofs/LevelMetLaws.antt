@@ -26,7 +26,7 @@ use Rattle.html2text.specs.Walk.{hasTrees, leftOut, eventAt, events, tre
 use Rattle.html2text.specs.declared.ExtractNode.{ExtractNode}
 use Rattle.html2text.proofs.CollectLaws.{collect-all-append, block-pushes}
 use Rattle.html2text.proofs.LevelLaws.{step-levels, level-long}
-use Rattle.html2text.proofs.OrLaws.{or-cases}
+use Rattle.common.proofs.TestLaws.{or-cases}
 use Rattle.html2text.proofs.RunLaws.{serialized-from, serialized-start}
 
 -- d levels are open

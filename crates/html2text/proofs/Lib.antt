@@ -14,7 +14,6 @@ pub mod LevelMetLaws
 pub mod LostStrip
 pub mod MeasureLaws
 pub mod OffLaws
-pub mod OrLaws
 pub mod PageBounds
 pub mod PageLaws
 pub mod RiseLaws

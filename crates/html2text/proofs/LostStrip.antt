@@ -17,7 +17,7 @@ use Rattle.html2text.specs.Pieces.{Piece, rowPieces, along, pieces, stru
 use Rattle.html2text.specs.Walk.{isComment, hasTrees, leftOut, eventAt, events}
 use Rattle.html2text.proofs.CollectLaws.{collect-all-append, lost, depthOf, lost-pushed, depth-pushed, lost-stayed, depth-stayed, deep-pushes, cell-pushes, kept-collect}
 use Rattle.html2text.proofs.OffLaws.{off, kept}
-use Rattle.html2text.proofs.OrLaws.{or-left, or-right, or-cases, or-neither}
+use Rattle.common.proofs.TestLaws.{or-left, or-right, or-cases, or-neither}
 use Rattle.html2text.proofs.SaidLaws.{struckAll, said, cell-tag, cell-said, blank-said, blank-no-element}
 
 -- ---- pieces, blanks struck out

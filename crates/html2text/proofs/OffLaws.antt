@@ -6,7 +6,7 @@ use Prim.Native.Nat.{ℕ, _≤_, _-_}
 use native.Mathlib.Omega.{arith}
 use lib.Dec.{eqb}
 use lib.ListN.{length, getD}
-use Rattle.common.specs.Bytes.{Bytes}
+use Rattle.common.specs.Bytes.{Bytes, isEmpty}
 use Rattle.common.proofs.Choice.{by-cond}
 use Rattle.options.specs.declared.ExtractOptions.{ExtractOptions}
 use Rattle.options.specs.declared.Formatting.the-variants.{Off}
@@ -18,10 +18,10 @@ use Rattle.writer.specs.Out.{Out, pushAll, strip}
 use Rattle.writer.proofs.OutLaws.{push-all-text}
 use Rattle.html2text.specs.Collect.{Entry}
 use Rattle.html2text.specs.Extract.{going, serialized}
-use Rattle.html2text.specs.Serialize.{State, onOut, withUncollapsed, isEmpty, endsBlank, collapses, separated, marginOut, margin, rows, between, besideCell, inRow, cell, blockMargin, trims, shortened, indentText, lead, putText, afterOff, stepBy, step}
+use Rattle.html2text.specs.Serialize.{State, onOut, withUncollapsed, endsBlank, collapses, separated, marginOut, margin, rows, between, besideCell, inRow, cell, blockMargin, trims, shortened, indentText, lead, putText, afterOff, stepBy, step}
 use Rattle.html2text.specs.declared.ExtractNode.{ExtractNode}
 use Rattle.html2text.proofs.BlankRuns.{run, Calm, calm-append, calm-space, run-space, calm-rstrip, run-rstrip, ends-run, calm-collapse, calm-trim-start}
-use Rattle.html2text.proofs.OrLaws.{or-neither}
+use Rattle.common.proofs.TestLaws.{or-neither}
 use Rattle.html2text.proofs.RunLaws.{serialized-from, serialized-start}
 
 -- the options with formatting Off

@@ -6,7 +6,7 @@ use mathlib.Core.Option.{some, Option·getD}
 use Prim.Native.Nat.{ℕ, zero, suc, _+_, _*_, _≤_}
 use native.Mathlib.Omega.{arith}
 use lib.ListN.{length, take, drop, length-append, length-take, length-drop}
-use Rattle.common.specs.Bytes.{Bytes, codes, same}
+use Rattle.common.specs.Bytes.{Bytes, codes, same, isEmpty}
 use Rattle.common.proofs.Choice.{by-cond}
 use Rattle.options.specs.Options.{isMinimalHtml}
 use Rattle.options.specs.declared.ExtractOptions.{ExtractOptions}
@@ -29,7 +29,7 @@ use Rattle.tree.specs.Page.{nodeAt, pageOf}
 use Rattle.tree.proofs.NodeLaws.{by-kind}
 use Rattle.html2text.specs.Bounds.{mostAdded, Adds, EachAdds, EventsBounded}
 use Rattle.html2text.specs.Collect.{Event, tagNumber, attr, isLink, isBreak, linkText, isUnshownType, fieldValue, addedByElement, added}
-use Rattle.html2text.specs.Serialize.{isEmpty, one}
+use Rattle.html2text.specs.Serialize.{one}
 use Rattle.html2text.specs.Walk.{hasTrees, leftOut, eventAt, events, visits, treeOf}
 use Rattle.html2text.proofs.BoundLaws.{each-append}
 use Rattle.html2text.proofs.PageLaws.{page-right}

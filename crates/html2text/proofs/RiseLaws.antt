@@ -6,7 +6,7 @@ use Prim.Native.Nat.{ℕ, _+_, _-_, _*_, _≤_}
 use native.Mathlib.Omega.{arith}
 use lib.Dec.{eqb, ltb}
 use lib.ListN.{length, getD, replicate}
-use Rattle.common.specs.Bytes.{Bytes, codes}
+use Rattle.common.specs.Bytes.{Bytes, codes, isEmpty}
 use Rattle.common.proofs.Choice.{by-cond}
 use Rattle.options.specs.Options.{isOff}
 use Rattle.options.specs.declared.ExtractOptions.{ExtractOptions}
@@ -19,7 +19,7 @@ use Rattle.writer.proofs.OutLaws.{push-all-rises}
 use Rattle.html2text.specs.Collect.{Event, Entry, tagNumber, added}
 use Rattle.html2text.specs.Extract.{Run, going, tooManyLevels, tooManyRows, passesLevels, passesRows, lineOf, taken}
 use Rattle.html2text.specs.Fused.{Fused, closed, openEntry, pushesOn, emptied, opened, grown, fed, fedAll}
-use Rattle.html2text.specs.Serialize.{State, one, withMargins, withUncollapsed, isEmpty, endsBlank, collapses, separated, marginOut, margin, rows, between, besideCell, inRow, cell, countUncollapsed, changesLevel, level, numberOf, item, itemOut, htmlItem, htmlPre, htmlBr, htmlMarks, wantsTag, opensTag, tagMargins, beforeTag, tagOut, htmlTag, blockAfterMarks, blockAfterTag, blockMargin, trims, shortened, indentText, lead, putText, afterOff, afterBasic, finishHtml, afterHtml, stepBy, after, step}
+use Rattle.html2text.specs.Serialize.{State, one, withMargins, withUncollapsed, endsBlank, collapses, separated, marginOut, margin, rows, between, besideCell, inRow, cell, countUncollapsed, changesLevel, level, numberOf, item, itemOut, htmlItem, htmlPre, htmlBr, htmlMarks, wantsTag, opensTag, tagMargins, beforeTag, tagOut, htmlTag, blockAfterMarks, blockAfterTag, blockMargin, trims, shortened, indentText, lead, putText, afterOff, afterBasic, finishHtml, afterHtml, stepBy, after, step}
 use Rattle.html2text.specs.declared.ExtractNode.{ExtractNode}
 
 -- ---- what is written

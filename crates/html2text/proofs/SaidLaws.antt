@@ -4,7 +4,7 @@ use mathlib.Core.Bool.{Bool, true, false, _&&_, _||_, not, cond, and-false}
 use mathlib.Core.List.{List, [], _∷_, _++_, append-nil}
 use Prim.Native.Nat.{ℕ}
 use borrow.Author.Tests.{eqb-true}
-use Rattle.common.specs.Bytes.{Bytes, codes, same}
+use Rattle.common.specs.Bytes.{Bytes, codes, same, isEmpty}
 use Rattle.common.proofs.Choice.{by-test, absurd-test, and-parts}
 use Rattle.options.specs.declared.ExtractOptions.{ExtractOptions}
 use Rattle.tags.specs.Tags.{tagOf, isCell, isA, isTextarea, isImage, isButton, isInput}
@@ -16,7 +16,6 @@ use Rattle.tree.specs.Node.{Kind, element, text, comment, Attribute, Node, tag}
 use Rattle.html2text.specs.Collect.{attr, isLink, isUnshownType, fieldValue, addedByElement, added}
 use Rattle.html2text.specs.Demand.{isCellNode, isText, isBlankText}
 use Rattle.html2text.specs.Pieces.{shownValue, elementPieces, rowPieces}
-use Rattle.html2text.specs.Serialize.{isEmpty}
 use Rattle.html2text.proofs.OffLaws.{off}
 
 unfoldable pub struckAll : List Bytes → Bytes

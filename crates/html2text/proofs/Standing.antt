@@ -22,7 +22,7 @@ use Rattle.html2text.specs.Demand.{isCellNode, isBlankText, LaterSibling
 use Rattle.html2text.specs.Theorems.{PageRight}
 use Rattle.html2text.specs.Walk.{isComment, hasTrees, treeOf}
 use Rattle.html2text.proofs.LostStrip.{Parents, mayFollow, Cells}
-use Rattle.html2text.proofs.OrLaws.{or-cases, or-mono}
+use Rattle.common.proofs.TestLaws.{or-cases, or-mono}
 
 module _ (depths : List ℕ) (root : ℕ) where
   -- row i has the parent p, and is not the root

@@ -7,7 +7,7 @@ use native.Mathlib.Omega.{arith}
 use lib.Dec.{eqb, leb, ltb}
 use lib.ListN.{length, getD, take, set, replicate, length-append, length-replicate}
 use borrow.Author.Tests.{leb-true}
-use Rattle.common.specs.Bytes.{Bytes, codes}
+use Rattle.common.specs.Bytes.{Bytes, codes, isEmpty}
 use Rattle.common.proofs.Choice.{by-cond, and-parts}
 use Rattle.options.specs.Options.{isOff}
 use Rattle.options.specs.declared.Formatting.{Formatting}
@@ -23,7 +23,7 @@ use Rattle.writer.specs.Out.{Out, greater, pushAll}
 use Rattle.writer.proofs.CostLaws.{Costs, costs-none, costs-push-all, costs-strip, costs-then}
 use Rattle.writer.proofs.DigitsLaws.{digits-length}
 use Rattle.writer.proofs.OutLaws.{greater-max}
-use Rattle.html2text.specs.Serialize.{State, one, onOut, withPrefix, withLevels, withMargins, withUncollapsed, pop, isEmpty, endsBlank, collapses, separated, marginOut, margin, rows, between, besideCell, inRow, cell, countUncollapsed, changesLevel, level, numberOf, numberText, item, itemOut, htmlItem, htmlPre, htmlBr, htmlMarks, wantsTag, opensTag, tagMargins, beforeTag, tagOut, htmlTag, blockAfterMarks, blockAfterTag, blockMargin, trims, shortened, indentText, lead, putText, afterOff, afterBasic, finishHtml, afterHtml, stepBy, after, step}
+use Rattle.html2text.specs.Serialize.{State, one, onOut, withPrefix, withLevels, withMargins, withUncollapsed, pop, endsBlank, collapses, separated, marginOut, margin, rows, between, besideCell, inRow, cell, countUncollapsed, changesLevel, level, numberOf, numberText, item, itemOut, htmlItem, htmlPre, htmlBr, htmlMarks, wantsTag, opensTag, tagMargins, beforeTag, tagOut, htmlTag, blockAfterMarks, blockAfterTag, blockMargin, trims, shortened, indentText, lead, putText, afterOff, afterBasic, finishHtml, afterHtml, stepBy, after, step}
 use Rattle.html2text.specs.declared.ExtractNode.{ExtractNode}
 
 -- ---- what is written

@@ -3,7 +3,7 @@ use mathlib.Core.Bool.{Bool, true, _&&_, _||_, not, cond}
 use mathlib.Core.List.{List, [], _∷_, _++_}
 use Prim.Native.Nat.{ℕ, _+_, _-_}
 use lib.Dec.{ltb}
-use Rattle.common.specs.Bytes.{Bytes, codes}
+use Rattle.common.specs.Bytes.{Bytes, codes, isEmpty}
 use Rattle.options.specs.Options.{isBasic, isMinimalHtml}
 use Rattle.options.specs.declared.ExtractOptions.{ExtractOptions}
 use Rattle.options.specs.declared.Formatting.{Formatting}
@@ -12,7 +12,6 @@ use Rattle.tags.specs.Tags.{tagOf, isBlockTag, isBigBlock, isCell, isPre, isBr,
 use Rattle.tags.specs.Words.{oneOf, words}
 use Rattle.text.specs.Text.{trim, escape}
 use Rattle.tree.specs.Node.{element, text, comment, Node, tag, attributeOrEmpty}
-use Rattle.html2text.specs.Serialize.{isEmpty}
 use Rattle.html2text.specs.declared.ExtractNode.{ExtractNode}
 
 -- a pass of the walk's loop that is not left out: `collect`'s arguments; `children` is `node.has_child_nodes()`

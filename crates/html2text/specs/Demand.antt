@@ -5,7 +5,7 @@ use mathlib.Core.List.{List, []}
 use mathlib.Core.Option.{some}
 use Prim.Native.Nat.{ℕ, suc, _+_, _<_}
 use lib.ListN.{length, getD}
-use Rattle.common.specs.Bytes.{Bytes}
+use Rattle.common.specs.Bytes.{Bytes, isEmpty}
 use Rattle.options.specs.declared.ExtractOptions.{ExtractOptions}
 use Rattle.sheet.specs.Column.{parentOf}
 use Rattle.tags.specs.Words.{is, oneOf, words}
@@ -15,7 +15,6 @@ use Rattle.tree.specs.Page.{Page}
 use Rattle.tree.specs.Rows.{nextSiblingOf}
 use Rattle.html2text.specs.Extract.{hidden}
 use Rattle.html2text.specs.Pieces.{Piece, pieces, struckPieces, without}
-use Rattle.html2text.specs.Serialize.{isEmpty}
 use Rattle.html2text.specs.Walk.{isComment, treeOf}
 
 -- "every blank is U+0020, never three together, none last"

@@ -2,14 +2,13 @@
 use mathlib.Core.Bool.{Bool, true, false, _&&_, _||_, not, cond}
 use mathlib.Core.List.{List, [], _∷_, _++_, map}
 use Prim.Native.Nat.{ℕ}
-use Rattle.common.specs.Bytes.{Bytes, codes}
+use Rattle.common.specs.Bytes.{Bytes, codes, isEmpty}
 use Rattle.options.specs.declared.ExtractOptions.{ExtractOptions}
 use Rattle.tags.specs.Words.{is, oneOf, words}
 use Rattle.text.specs.Text.{trim, struck}
 use Rattle.tree.specs.Forest.{Forest, empty, node}
 use Rattle.tree.specs.Node.{element, text, comment, Node}
 use Rattle.html2text.specs.Collect.{attr, isUnshownType}
-use Rattle.html2text.specs.Serialize.{isEmpty}
 use Rattle.html2text.specs.Walk.{hasTrees, leftOut}
 
 -- the bytes of a piece, and the rows from its own up to the root

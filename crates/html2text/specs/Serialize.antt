@@ -5,7 +5,7 @@ use mathlib.Core.List.{List, [], _∷_, _++_}
 use Prim.Native.Nat.{ℕ, _+_, _-_, _*_}
 use lib.Dec.{eqb, ltb}
 use lib.ListN.{length, getD, take, set, replicate}
-use Rattle.common.specs.Bytes.{Bytes, codes}
+use Rattle.common.specs.Bytes.{Bytes, codes, isEmpty}
 use Rattle.options.specs.Options.{isOff}
 use Rattle.options.specs.declared.Formatting.{Formatting}
 use Rattle.options.specs.declared.Formatting.the-variants.{Off, Basic, MinimalHtml}
@@ -61,10 +61,6 @@ one b = cond b 1 0
 -- `v.pop()`
 abbrev pub pop {ℓ} : {A : Type ℓ} → List A → List A
 pop l = take (length l - 1) l
-
-abbrev pub isEmpty : Bytes → Bool
-isEmpty [] = true
-isEmpty (c ∷ s) = false
 
 -- `out.chars().last().is_some_and(is_space)`
 unfoldable pub endsBlank : Bytes → Bool

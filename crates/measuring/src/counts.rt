@@ -3,38 +3,20 @@ use crate::Levels;
 use crate::Measure;
 use html2text::ExtractNode;
 use options::Formatting;
+use serializer::changes_level;
+use serializer::less_one;
 ghost use mathlib.Core.Bool.{_&&_, false, not};
 ghost use mathlib.Core.Path.{_≡_};
-ghost use Prim.Native.Nat.{_-_};
 ghost use Rattle.html2text.specs.Levels.{counted, levelsTaken, recounted};
 ghost use Rattle.html2text.specs.Serialize.{changesLevel};
 ghost use Rattle.options.specs.Options.{isOff};
-ghost use Rattle.tags.specs.Tags.{isList, isTr};
+ghost use Rattle.tags.specs.Tags.{isTr};
 ghost use Rattle.measuring.specs.Measuring.{levelsAfter, levelsIn, tooMany};
 
 const TR: u8 = 1;
 
-const UL: u8 = 3;
-
-const OL: u8 = 4;
-
-const LI: u8 = 5;
-
 // The most list levels, and the most open rows.
 const MOST: usize = 1024;
-
-fn is_list(tag: u8) -> bool
-    ensures { λ r. ⌜ r ≡ isList tag ⌝ }
-{
-    tag == UL || tag == OL
-}
-
-// Whether a list level opens or closes.
-fn changes_level(tag: u8, depth: usize) -> bool
-    ensures { λ r. ⌜ r ≡ changesLevel tag depth ⌝ }
-{
-    is_list(tag) || (tag == LI && depth == 0)
-}
 
 // Formatting Off counts no list level.
 fn counts_level(f: Formatting, tag: u8, depth: usize) -> bool
@@ -64,16 +46,6 @@ fn too_many(counts: bool, end: bool, k: usize) -> bool
         return MOST <= k;
     }
     false
-}
-
-// `k.saturating_sub(1)`
-fn less_one(k: usize) -> usize
-    ensures { λ r. ⌜ r ≡ k - 1 ⌝ }
-{
-    if k == 0 {
-        return 0;
-    }
-    k - 1
 }
 
 // One less at an end, one more otherwise, where it counts.

@@ -9,7 +9,7 @@ use lib.Dec.{ltb}
 use lib.ListN.{length, getD, drop, replicate, length-replicate, drop-of-length-le}
 use lib.Seq.{drop-cons}
 use borrow.Author.Tests.{lt-ltb}
-use Rattle.common.specs.Bytes.{Bytes}
+use Rattle.common.specs.Bytes.{Bytes, isEmpty}
 use Rattle.common.proofs.Choice.{by-test}
 use Rattle.text.specs.Text.{isSpace, squeezed, collapseBy, collapseFrom}
 use Rattle.text.proofs.CollapseLaws.{trim-start-collapse}
@@ -21,7 +21,7 @@ use Rattle.writer.specs.declared.Writer.{Writer}
 use Rattle.writer.proofs.DoesLaws.{grows-push-all}
 use Rattle.writer.proofs.HeldLaws.{run-small}
 use Rattle.writer.proofs.ShownLaws.{shown-shortened}
-use Rattle.html2text.specs.Serialize.{State, onOut, withPrefix, withBullet, withUncollapsed, one, isEmpty, collapses, margin, trims, shortened, indentText, lead, putText}
+use Rattle.html2text.specs.Serialize.{State, onOut, withPrefix, withBullet, withUncollapsed, one, collapses, margin, trims, shortened, indentText, lead, putText}
 use Rattle.html2text.specs.declared.ExtractNode.{ExtractNode}
 use Rattle.serializer.specs.Serializing.{setWriter, setPrefix, setBullet, setUncollapsed, Lent, lent, Stands, AbleOut, WorksAlone, WorksOut, prefixText, allBlank}
 use Rattle.serializer.specs.declared.Prefix.the-variants.{Nothing}

@@ -72,7 +72,7 @@ impl Serializer {
 }
 
 // `x.saturating_sub(1)`
-fn less_one(x: usize) -> usize
+pub fn less_one(x: usize) -> usize
     ensures { λ r. ⌜ r ≡ x - 1 ⌝ }
 {
     if x == 0 {

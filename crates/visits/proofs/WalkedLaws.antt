@@ -21,7 +21,7 @@ use Rattle.tree.specs.Rows.{childrenOf, firstChildOf, nextSiblingOf}
 use Rattle.html2text.specs.Bounds.{mostEvents, EachAdds}
 use Rattle.html2text.specs.Collect.{Event}
 use Rattle.html2text.specs.Walk.{isComment, hasTrees, leftOut, eventAt, events, visits, treeOf}
-use Rattle.html2text.proofs.OrLaws.{or-neither}
+use Rattle.common.proofs.TestLaws.{or-neither}
 use Rattle.html2text.proofs.PageBounds.{events-bounded}
 use Rattle.html2text.proofs.PageLaws.{page-right}
 use Rattle.html2text.proofs.Standing.{Stands, root-stands}

@@ -6,7 +6,7 @@ use Rattle.patterns.specs.Match.{matchesOf}
 use Rattle.patterns.specs.Patterns.{patterns}
 use Rattle.filters.specs.Filters.{article}
 use Rattle.filters.proofs.NameLaws.{article-number}
-use Rattle.filters.proofs.TestLaws.{or-yes, or-no}
+use Rattle.common.proofs.TestLaws.{or-yes, or-no}
 use Rattle.filters.proofs.classes.article.Statement.{statement}
 use Rattle.filters.proofs.classes.article.Tie as tie
 

@@ -5,7 +5,7 @@ use native.Mathlib.Omega.{arith}
 use Rattle.patterns.specs.Match.{matchesOf}
 use Rattle.patterns.specs.Patterns.{patterns}
 use Rattle.filters.specs.Filters.{commentSection}
-use Rattle.filters.proofs.TestLaws.{and-yes, and-no}
+use Rattle.common.proofs.TestLaws.{and-yes, and-no}
 use Rattle.filters.proofs.classes.comment_section.Statement.{statement}
 use Rattle.filters.proofs.classes.comment_section.Tie as tie
 

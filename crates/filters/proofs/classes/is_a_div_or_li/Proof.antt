@@ -1,7 +1,7 @@
 -- `classes::is_a_div_or_li` meets its contract.
 use mathlib.Core.Path.{refl}
 use borrow.Author.Tests.{eq-eqb, ne-eqb}
-use Rattle.filters.proofs.TestLaws.{or-yes, or-no}
+use Rattle.common.proofs.TestLaws.{or-yes, or-no}
 use Rattle.filters.proofs.classes.is_a_div_or_li.Statement.{statement}
 use Rattle.filters.proofs.classes.is_a_div_or_li.Tie as tie
 

@@ -7,7 +7,7 @@ use Rattle.patterns.specs.Patterns.{patterns}
 use Rattle.filters.specs.Classes.{anyMatch}
 use Rattle.filters.specs.Filters.{landmark}
 use Rattle.filters.proofs.ClassLaws.{are-patterns}
-use Rattle.filters.proofs.TestLaws.{or-yes, or-no}
+use Rattle.common.proofs.TestLaws.{or-yes, or-no}
 use borrow.Author.Needs.{needs}
 use Rattle.filters.proofs.classes.landmark.Statement.{statement}
 use Rattle.filters.proofs.classes.landmark.Tie as tie

@@ -5,7 +5,7 @@ use native.Mathlib.Omega.{arith}
 use Rattle.patterns.specs.Match.{matchesOf}
 use Rattle.patterns.specs.Patterns.{patterns}
 use Rattle.filters.specs.Filters.{notDisplayed}
-use Rattle.filters.proofs.TestLaws.{or-yes, or-no, and-yes, and-no}
+use Rattle.common.proofs.TestLaws.{or-yes, or-no, and-yes, and-no}
 use borrow.Author.Needs.{needs}
 use Rattle.filters.proofs.classes.not_displayed.Statement.{statement}
 use Rattle.filters.proofs.classes.not_displayed.Tie as tie

@@ -7,7 +7,7 @@ use Rattle.patterns.specs.Patterns.{patterns}
 use Rattle.filters.specs.Classes.{anyMatch}
 use Rattle.filters.specs.Filters.{signinMetaOrSocial}
 use Rattle.filters.proofs.ClassLaws.{are-patterns}
-use Rattle.filters.proofs.TestLaws.{and-yes, and-no}
+use Rattle.common.proofs.TestLaws.{and-yes, and-no}
 use borrow.Author.Needs.{needs}
 use Rattle.filters.proofs.classes.signin_meta_or_social.Statement.{statement}
 use Rattle.filters.proofs.classes.signin_meta_or_social.Tie as tie

@@ -6,7 +6,7 @@ use Rattle.patterns.specs.Match.{matchesOf}
 use Rattle.patterns.specs.Patterns.{patterns}
 use Rattle.filters.specs.Filters.{skipLink}
 use Rattle.filters.proofs.NameLaws.{a-div-or-li}
-use Rattle.filters.proofs.TestLaws.{and-yes, and-no}
+use Rattle.common.proofs.TestLaws.{and-yes, and-no}
 use Rattle.filters.proofs.classes.skip_link.Statement.{statement}
 use Rattle.filters.proofs.classes.skip_link.Tie as tie
 

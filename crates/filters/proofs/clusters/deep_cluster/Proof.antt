@@ -1,6 +1,6 @@
 -- `clusters::deep_cluster` meets its contract.
 use borrow.Author.Tests.{lt-ltb, le-ltb}
-use Rattle.filters.proofs.TestLaws.{and-yes, and-no}
+use Rattle.common.proofs.TestLaws.{and-yes, and-no}
 use Rattle.filters.proofs.clusters.deep_cluster.Statement.{statement}
 use Rattle.filters.proofs.clusters.deep_cluster.Tie as tie
 

@@ -1,6 +1,6 @@
 -- `clusters::footer` meets its contract.
 use mathlib.Core.Path.{refl, sym, _∙_}
-use Rattle.filters.proofs.TestLaws.{cond-yes, cond-no}
+use Rattle.common.proofs.TestLaws.{cond-yes, cond-no}
 use borrow.Author.Needs.{needs}
 use Rattle.filters.proofs.clusters.footer.Statement.{statement}
 use Rattle.filters.proofs.clusters.footer.Tie as tie

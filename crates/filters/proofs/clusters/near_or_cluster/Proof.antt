@@ -1,6 +1,6 @@
 -- `clusters::near_or_cluster` meets its contract.
 use borrow.Author.Tests.{lt-ltb, le-ltb}
-use Rattle.filters.proofs.TestLaws.{or-yes, or-no}
+use Rattle.common.proofs.TestLaws.{or-yes, or-no}
 use borrow.Author.Needs.{needs}
 use Rattle.filters.proofs.clusters.near_or_cluster.Statement.{statement}
 use Rattle.filters.proofs.clusters.near_or_cluster.Tie as tie

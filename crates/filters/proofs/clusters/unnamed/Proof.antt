@@ -3,7 +3,7 @@ use mathlib.Core.Bool.{not}
 use mathlib.Core.Path.{sym, ap, _∙_}
 use borrow.Author.Tests.{eq-eqb, ne-eqb, le-leb, lt-leb}
 use Rattle.filters.proofs.NameLaws.{div-number}
-use Rattle.filters.proofs.TestLaws.{or-yes, or-no}
+use Rattle.common.proofs.TestLaws.{or-yes, or-no}
 use borrow.Author.Needs.{needs}
 use Rattle.filters.proofs.clusters.unnamed.Statement.{statement}
 use Rattle.filters.proofs.clusters.unnamed.Tie as tie

@@ -6,7 +6,7 @@ use Rattle.tree.specs.Page.{nodeAt}
 use Rattle.tree.proofs.Column.{below-length, past-length, depth-is}
 use Rattle.filters.proofs.FooterLaws.{none-behind, none-beside, sibling-behind}
 use Rattle.filters.proofs.RowLaws.{is-text, not-text, depth-read}
-use Rattle.filters.proofs.TestLaws.{or-yes, or-no}
+use Rattle.common.proofs.TestLaws.{or-yes, or-no}
 use Rattle.filters.proofs.footer.content_follows.Statement.{statement}
 use Rattle.filters.proofs.footer.content_follows.Tie as tie
 

@@ -3,11 +3,11 @@ use mathlib.Core.Path.{sym, _∙_}
 use borrow.Author.Tests.{eq-eqb, ne-eqb}
 use denote.Ref.{now}
 use Rattle.filters.proofs.StageLaws.{is-empty}
-use Rattle.filters.proofs.TestLaws.{and-yes, and-no}
+use Rattle.common.proofs.TestLaws.{and-yes, and-no}
 use mathlib.Core.Path.{sym, _∙_}
 use borrow.Author.Tests.{eq-eqb, ne-eqb}
 use Rattle.filters.proofs.StageLaws.{is-empty}
-use Rattle.filters.proofs.TestLaws.{and-yes, and-no}
+use Rattle.common.proofs.TestLaws.{and-yes, and-no}
 use Rattle.filters.proofs.main_content.are_empty.Statement.{statement}
 use Rattle.filters.proofs.main_content.are_empty.Tie as tie
 

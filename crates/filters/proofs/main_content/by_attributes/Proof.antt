@@ -4,7 +4,7 @@ use native.Mathlib.Omega.{arith}
 use denote.Ref.{now}
 use Rattle.filters.specs.Filters.{byAttributes}
 use Rattle.filters.proofs.StageLaws.{by-values}
-use Rattle.filters.proofs.TestLaws.{cond-yes, cond-no}
+use Rattle.common.proofs.TestLaws.{cond-yes, cond-no}
 use borrow.Author.Needs.{needs}
 use Rattle.filters.proofs.main_content.by_attributes.Statement.{statement}
 use Rattle.filters.proofs.main_content.by_attributes.Tie as tie

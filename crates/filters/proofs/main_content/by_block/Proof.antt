@@ -2,7 +2,7 @@
 use mathlib.Core.Bool.{not}
 use mathlib.Core.Path.{refl, sym, ap, _∙_}
 use Rattle.filters.specs.Filters.{byBlock}
-use Rattle.filters.proofs.TestLaws.{cond-yes, cond-no}
+use Rattle.common.proofs.TestLaws.{cond-yes, cond-no}
 use Rattle.filters.proofs.main_content.by_block.Statement.{statement}
 use Rattle.filters.proofs.main_content.by_block.Tie as tie
 

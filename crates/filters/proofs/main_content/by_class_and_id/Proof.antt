@@ -3,7 +3,7 @@ use mathlib.Core.Path.{refl, sym, _∙_}
 use native.Mathlib.Omega.{arith}
 use denote.Ref.{now}
 use Rattle.filters.specs.Filters.{byClassAndId}
-use Rattle.filters.proofs.TestLaws.{cond-yes, cond-no}
+use Rattle.common.proofs.TestLaws.{cond-yes, cond-no}
 use Rattle.filters.proofs.main_content.by_class_and_id.Statement.{statement}
 use Rattle.filters.proofs.main_content.by_class_and_id.Tie as tie
 

@@ -5,7 +5,7 @@ use denote.Ref.{now}
 use Rattle.filters.specs.Filters.{byName}
 use Rattle.filters.proofs.AttributeLaws.{slots-readable, slots-gathered}
 use Rattle.filters.proofs.NameLaws.{footer-number}
-use Rattle.filters.proofs.TestLaws.{cond-yes, cond-no}
+use Rattle.common.proofs.TestLaws.{cond-yes, cond-no}
 use Rattle.filters.proofs.main_content.by_name.Statement.{statement}
 use Rattle.filters.proofs.main_content.by_name.Tie as tie
 

@@ -4,7 +4,7 @@ use native.Mathlib.Omega.{arith}
 use Rattle.patterns.specs.Match.{matchesOf}
 use Rattle.patterns.specs.Patterns.{patterns}
 use Rattle.filters.specs.Filters.{logoOrAd}
-use Rattle.filters.proofs.TestLaws.{or-yes, or-no}
+use Rattle.common.proofs.TestLaws.{or-yes, or-no}
 use borrow.Author.Needs.{needs}
 use Rattle.filters.proofs.main_content.logo_or_ad.Statement.{statement}
 use Rattle.filters.proofs.main_content.logo_or_ad.Tie as tie

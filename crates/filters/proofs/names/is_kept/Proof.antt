@@ -5,7 +5,7 @@ use denote.Ref.{now}
 use borrow.Author.Tests.{eq-eqb, ne-eqb}
 use Rattle.common.specs.Bytes.{codes}
 use Rattle.filters.proofs.NameLaws.{kept-numbered, kept-other}
-use Rattle.filters.proofs.TestLaws.{or-yes, or-no}
+use Rattle.common.proofs.TestLaws.{or-yes, or-no}
 use borrow.Author.Needs.{needs}
 use Rattle.filters.proofs.names.is_kept.Statement.{statement}
 use Rattle.filters.proofs.names.is_kept.Tie as tie

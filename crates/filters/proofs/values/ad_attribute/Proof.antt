@@ -1,7 +1,7 @@
 -- `values::ad_attribute` meets its contract.
 use denote.Ref.{now}
 use Rattle.filters.specs.Filters.{adAttribute}
-use Rattle.filters.proofs.TestLaws.{or-yes, or-no}
+use Rattle.common.proofs.TestLaws.{or-yes, or-no}
 use Rattle.filters.proofs.ValueLaws.{is-there, not-there, there-is}
 use borrow.Author.Needs.{needs}
 use Rattle.filters.proofs.values.ad_attribute.Statement.{statement}

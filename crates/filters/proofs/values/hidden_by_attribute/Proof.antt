@@ -5,7 +5,7 @@ use denote.Ref.{now}
 use Rattle.common.specs.Bytes.{codes, same}
 use Rattle.tags.specs.Words.{words, firstWord, otherWords, oneOf}
 use Rattle.filters.specs.Filters.{hiddenByAttribute}
-use Rattle.filters.proofs.TestLaws.{or-yes, or-no}
+use Rattle.common.proofs.TestLaws.{or-yes, or-no}
 use Rattle.filters.proofs.ValueLaws.{is-there, not-there, among-held}
 use borrow.Author.Needs.{needs}
 use Rattle.filters.proofs.values.hidden_by_attribute.Statement.{statement}
