@@ -3,7 +3,7 @@ use mathlib.Core.Path.{_≡_, refl, sym, ap, _∙_, subst}
 use mathlib.Core.Bool.{Bool, true, false, _&&_, _||_, not, cond}
 use mathlib.Core.Logic.{_⊎_, inl, inr}
 use mathlib.Core.Option.{Option, none, some}
-use Prim.Native.Nat.{ℕ, zero, suc, _+_, _*_, _≤_, _<_}
+use Prim.Native.Nat.{ℕ, zero, suc, _+_, _*_, _^_, _≤_, _<_}
 use native.Mathlib.Nat.{mul-le-mul-right, suc-mul}
 use native.Mathlib.Omega.{arith}
 use lib.Dec.{leb, ltb, eqb}
@@ -59,7 +59,8 @@ module _ (w : ℕ) (s : Bytes) where
         number = λ i h.
             let f = number-of (fieldAt w s (at + i * w)) (numbers at k (p .1) i h) in
             let c = reads-back (take w (drop (at + i * w) s)) (f .0) .0 (f .1) in
-            (f .0, c .0 ∙ ap (λ (v : ℕ). columns v (f .0)) (part-length s (at + i * w) w (omega (arith, mul-le-mul-right w h, suc-mul i w))));
+            let long = part-length s (at + i * w) w (omega (arith, mul-le-mul-right w h, suc-mul i w)) in
+            record { value = f .0; written = c .0 ∙ ap (λ (v : ℕ). columns v (f .0)) long; fits = subst (λ (v : ℕ). f .0 < 10 ^ v) long (c .2) };
         end = ap (λ (p : ℕ). getD s p 0) (sym (after-is w at k)) ∙ eqb-true (getD s (after w at k) 0) 10 (p .0);
       }
 

@@ -45,7 +45,7 @@ unfolding front
 last-digit w n zero e f = rw spaces (first-digit (n % 10) (omega arith) ∙ ap Value (omega arith))
 last-digit w n (suc m) e f = rw (f m refl) (later-digit m (n % 10) (omega arith) ∙ ap Value (omega arith))
 
-read-columns : (w n : ℕ) → n < 10 ^ suc w → columnsFrom Blank (columns (suc w) n) ≡ Value n
+pub read-columns : (w n : ℕ) → n < 10 ^ suc w → columnsFrom Blank (columns (suc w) n) ≡ Value n
 unfolding columns front
 read-columns zero n h = columns-append Blank (front zero (n / 10)) _ ∙ last-digit zero n (n / 10) refl (λ m e. absurd (omega arith))
 read-columns (suc w) n h =
@@ -54,7 +54,7 @@ read-columns (suc w) n h =
 
 -- ---- what led to a state
 
-broken-value : (n : ℕ) → Broken ≡ Value n → ⊥
+pub broken-value : (n : ℕ) → Broken ≡ Value n → ⊥
 broken-value n h = let z : _≡_ {A = ℕ} 0 1 = cc in omega arith
 
 broken-blank : Broken ≡ Blank → ⊥

@@ -1,6 +1,7 @@
 pub mod Acceptance
 pub mod AttributePass
 pub mod ColumnsLaws
+pub mod DigitLaws
 pub mod FirstWrong
 pub mod Header
 pub mod Judging

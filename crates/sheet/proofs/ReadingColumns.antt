@@ -19,16 +19,16 @@ use Rattle.sheet.specs.declared.field.Field.the-variants.{Number, Bad}
 pub ten-positive : (i : ℕ) → 1 ≤ 10 ^ i
 ten-positive i = pow-le-pow-right {n = 10} (lit< tt) {i = 0} {j = i} (omega arith)
 
-broken-stays : (s : Bytes) → columnsFrom Broken s ≡ Broken
+pub broken-stays : (s : Bytes) → columnsFrom Broken s ≡ Broken
 broken-stays [] = refl
 broken-stays (b ∷ s) = broken-stays s
 
 module _ (s : Bytes) (i end : ℕ) (fits : end ≤ length s) where
   -- the part from i on, its first byte taken off
-  part-cons : i < end → take (end - i) (drop i s) ≡ getD s i 0 ∷ take (end - (i + 1)) (drop (i + 1) s)
+  pub part-cons : i < end → take (end - i) (drop i s) ≡ getD s i 0 ∷ take (end - (i + 1)) (drop (i + 1) s)
   part-cons h = let e : end - i ≡ suc (end - (i + 1)) = omega arith in rw (e, drop-cons s i 0 (omega arith), add-one)
 
-  part-none : end ≤ i → take (end - i) (drop i s) ≡ []
+  pub part-none : end ≤ i → take (end - i) (drop i s) ≡ []
   part-none h = let e : end - i ≡ 0 = omega arith in rw e
 
   -- ---- spaces

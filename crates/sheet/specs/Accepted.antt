@@ -4,11 +4,11 @@ use mathlib.Core.Bool.{true}
 use mathlib.Core.Logic.{_⊎_}
 use mathlib.Core.Option.{some}
 use Prim.Native.Nat.{ℕ, suc, _+_, _*_, _≤_, _<_}
-use lib.ListN.{getD, take, drop}
+use lib.ListN.{getD}
 use Rattle.common.specs.Bytes.{Bytes, codes}
 use Rattle.utf8.specs.Valid.{valid}
 use Rattle.sheet.specs.Column.{parentOf}
-use Rattle.sheet.specs.Columns.{columns}
+use Rattle.sheet.specs.Columns.{InColumns}
 use Rattle.sheet.specs.Layout.{nodeStart, attributeStart, rowAt, attributeAt, range, depths}
 use Rattle.sheet.specs.Notes.{Sized}
 use Rattle.sheet.specs.Verdict.{countsFrom}
@@ -17,7 +17,7 @@ use Rattle.sheet.specs.declared.line.Row.{Row}
 
 -- k numbers in columns of width w from `at` on, and LF behind them
 pub record Line (w : ℕ) (s : Bytes) (at k : ℕ) : Type 0 where
-  pub number : (i : ℕ) → i < k → (n : ℕ) × (take w (drop (at + i * w) s) ≡ columns w n)
+  pub number : (i : ℕ) → i < k → InColumns w s (at + i * w)
   pub end : getD s (at + k * w) 0 ≡ 10
 
 pub record KindOf (r : Row) : Type 0 where

@@ -5,7 +5,7 @@ use mathlib.Core.List.{[], _∷_, _++_}
 use mathlib.Core.Logic.{_↔_}
 use Prim.Native.Nat.{ℕ, zero, suc, _+_, _-_, _*_, _/_, _%_, _^_, _<_}
 use lib.Dec.{ltb, eqb}
-use lib.ListN.{length, replicate}
+use lib.ListN.{length, take, drop, replicate}
 use Rattle.common.specs.Bytes.{Bytes}
 use Rattle.sheet.specs.declared.field.Field.{Field}
 use Rattle.sheet.specs.declared.field.Field.the-variants.{Number, Bad}
@@ -14,6 +14,12 @@ use Rattle.sheet.specs.declared.field.Field.the-variants.{Number, Bad}
 unfoldable pub columns : ℕ → ℕ → Bytes
 columns zero n = []
 columns (suc w) n = elim (n / 10) [ zero ↦ replicate w 32 | suc m ↦ columns w (suc m) ] ++ (48 + n % 10) ∷ []
+
+-- the w columns at `at` hold a number that has room in them
+pub record InColumns (w : ℕ) (s : Bytes) (at : ℕ) : Type 0 where
+  pub value : ℕ
+  pub written : take w (drop at s) ≡ columns w value
+  pub fits : value < 10 ^ w
 
 -- ---- read from the left
 

@@ -1,6 +1,7 @@
--- What is left of columns behind their spaces.
+-- What is left of columns behind their spaces, and columns read without a test.
 use mathlib.Core.Path.{_≡_}
-use Prim.Native.Nat.{ℕ, _-_, _≤_, _<_}
+use mathlib.Core.List.{[], _∷_}
+use Prim.Native.Nat.{ℕ, _+_, _-_, _*_, _%_, _≤_, _<_}
 use lib.ListN.{getD, take, drop}
 use Rattle.common.specs.Bytes.{Bytes}
 use Rattle.sheet.specs.Columns.{Blank, columnsFrom}
@@ -11,3 +12,11 @@ pub record Spaces (s : Bytes) (at end place : ℕ) : Type 0 where
   pub to : place ≤ end
   pub left : columnsFrom Blank (take (end - place) (drop place s)) ≡ columnsFrom Blank (take (end - at) (drop at s))
   pub no-space : place < end → getD s place 0 ≡ 32 → ⊥
+
+-- the number n with the digits behind it: a space is 32, the digit d is 48 + d
+unfoldable pub plainFrom : ℕ → Bytes → ℕ
+plainFrom n [] = n
+plainFrom n (b ∷ s) = plainFrom (n * 10 + b % 16) s
+
+abbrev pub plain : Bytes → ℕ
+plain s = plainFrom 0 s

@@ -4,27 +4,42 @@ use crate::line::Layout;
 use crate::line::Quad;
 use crate::line::Row;
 use crate::line::row_of;
-use crate::verdict::number_at;
 ghost use mathlib.Core.Path.{_≡_};
-ghost use Prim.Native.Nat.{_+_, _*_, _<_, _≤_};
+ghost use Prim.Native.Nat.{ℕ, _+_, _*_, _<_, _≤_};
 ghost use lib.ListN.{length};
 ghost use Rattle.sheet.specs.Accepted.{Accepted};
+ghost use Rattle.sheet.specs.Columns.{InColumns};
 ghost use Rattle.sheet.specs.Layout.{attributeAt, range, rowAt};
-ghost use Rattle.sheet.specs.Lines.{attributeOf, quadFrom};
+ghost use Rattle.sheet.specs.Lines.{attributeOf, numberAt, quadFrom};
+
+// The number in the width columns at at: the last four bits of a space are 0, those of a digit its value.
+fn digits_at(s: &[u8], at: usize, width: usize) -> usize
+    requires { ⌜ (at + width ≤ length (now s)) × (width ≤ 10) × InColumns width (now s) at ⌝ }
+    ensures { λ r. ⌜ r ≡ numberAt width (now (s .entry)) at ⌝ }
+{
+    let end = at + width;
+    let mut n = 0;
+    let mut i = at;
+    while i < end {
+        n = n * 10 + (s[i] % 16) as usize;
+        i += 1;
+    }
+    n
+}
 
 // Four numbers, one after the other.
 fn quad_at(s: &[u8], at: usize, width: usize) -> Quad
-    requires { ⌜ (at + 4 * width ≤ length (now s)) × (width ≤ 10) ⌝ }
+    requires { ⌜ (at + 4 * width ≤ length (now s)) × (width ≤ 10) × ((k : ℕ) → k < 4 → InColumns width (now s) (at + k * width)) ⌝ }
     ensures { λ r. ⌜ r ≡ quadFrom width (now (s .entry)) at ⌝ }
 {
     let at1 = at + width;
     let at2 = at1 + width;
     let at3 = at2 + width;
     Quad {
-        first: number_at(s, at, width),
-        second: number_at(s, at1, width),
-        third: number_at(s, at2, width),
-        fourth: number_at(s, at3, width),
+        first: digits_at(s, at, width),
+        second: digits_at(s, at1, width),
+        third: digits_at(s, at2, width),
+        fourth: digits_at(s, at3, width),
     }
 }
 
@@ -66,7 +81,7 @@ pub fn depth_at(s: &[u8], l: Layout, i: usize) -> usize
     ensures { λ r. ⌜ r ≡ rowAt (now (s .entry)) l i .depth ⌝ }
 {
     let width = l.width;
-    number_at(s, 4 * width + 1 + (8 * width + 1) * i, width)
+    digits_at(s, 4 * width + 1 + (8 * width + 1) * i, width)
 }
 
 // A range of the pool.

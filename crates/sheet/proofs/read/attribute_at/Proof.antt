@@ -3,6 +3,7 @@ use mathlib.Core.Path.{ap, _∙_}
 use native.Mathlib.Omega.{arith}
 use Rattle.sheet.specs.Layout.{attributeAt}
 use Rattle.sheet.specs.Lines.{attributeOf}
+use Rattle.sheet.proofs.DigitLaws.{columns-from}
 use Rattle.sheet.proofs.LayoutLaws.{attribute-fits}
 use borrow.Author.Needs.{needs}
 use Rattle.sheet.proofs.read.attribute_at.Statement.{statement}
@@ -39,7 +40,10 @@ add-at-5 : tie.Need-add-at-5
 add-at-5 c = omega (arith, attribute-fits (c .before .before .pre .0 .sized) (c .before .before .args .j) (c .before .before .pre .1), c .before .before .pre .0 .sized .width)
 
 quad-at-requires : tie.Need-quad-at-requires
-quad-at-requires c κs = omega (arith, attribute-fits (c .before .before .pre .0 .sized) (c .before .before .args .j) (c .before .before .pre .1), c .before .before .pre .0 .sized .width)
+quad-at-requires c κs =
+    let p = c .before .before .pre in
+    let j = c .before .before .args .j in
+    (omega (arith, attribute-fits (p .0 .sized) j (p .1)), p .0 .sized .width, columns-from 0 4 (p .0 .attribute-line j (p .1)) (omega arith) (omega arith))
 
 attribute-of-requires : tie.Need-attribute-of-requires
 attribute-of-requires c κs = search needs

@@ -1,4 +1,6 @@
 -- `read::quad_at` meets its contract.
+use native.Mathlib.Omega.{arith}
+use Rattle.sheet.proofs.DigitLaws.{column-at}
 use borrow.Author.Needs.{needs}
 use Rattle.sheet.proofs.read.quad_at.Statement.{statement}
 use Rattle.sheet.proofs.read.quad_at.Tie as tie
@@ -12,21 +14,21 @@ add-at2 c = search needs
 add-at3 : tie.Need-add-at3
 add-at3 c = search needs
 
-number-at-requires : tie.Need-number-at-requires
-number-at-requires c κs = search needs
+digits-at-requires : tie.Need-digits-at-requires
+digits-at-requires c κs = let p = c .before .pre in (omega (arith, p .0), p .1, column-at (p .2 0 (omega arith)) (omega arith))
 
-number-at-requires-2 : tie.Need-number-at-requires-2
-number-at-requires-2 c κs = search needs
+digits-at-requires-2 : tie.Need-digits-at-requires-2
+digits-at-requires-2 c κs = let p = c .before .before .pre in (omega (arith, p .0), p .1, column-at (p .2 1 (omega arith)) (omega arith))
 
-number-at-requires-3 : tie.Need-number-at-requires-3
-number-at-requires-3 c κs = search needs
+digits-at-requires-3 : tie.Need-digits-at-requires-3
+digits-at-requires-3 c κs = let p = c .before .before .before .pre in (omega (arith, p .0), p .1, column-at (p .2 2 (omega arith)) (omega arith))
 
-number-at-requires-4 : tie.Need-number-at-requires-4
-number-at-requires-4 c κs = search needs
+digits-at-requires-4 : tie.Need-digits-at-requires-4
+digits-at-requires-4 c κs = let p = c .before .before .before .before .pre in (omega (arith, p .0), p .1, column-at (p .2 3 (omega arith)) (omega arith))
 
 returns : tie.Need-returns
 returns c =
-    λ i. record { first = c .before .before .before .number-at .ensures i; second = c .before .before .number-at2 .ensures i; third = c .before .number-at3 .ensures i; fourth = c .number-at4 .ensures i }
+    λ i. record { first = c .before .before .before .digits-at .ensures i; second = c .before .before .digits-at2 .ensures i; third = c .before .digits-at3 .ensures i; fourth = c .digits-at4 .ensures i }
 
 pub quad-at-spec : {M : Type 1} → statement M
 quad-at-spec =
@@ -35,8 +37,8 @@ quad-at-spec =
     add-at1
     add-at2
     add-at3
-    number-at-requires
-    number-at-requires-2
-    number-at-requires-3
-    number-at-requires-4
+    digits-at-requires
+    digits-at-requires-2
+    digits-at-requires-3
+    digits-at-requires-4
     returns)

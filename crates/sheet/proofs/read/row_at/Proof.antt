@@ -3,6 +3,7 @@ use mathlib.Core.Path.{ap₂, _∙_}
 use native.Mathlib.Omega.{arith}
 use Rattle.sheet.specs.Layout.{rowAt}
 use Rattle.sheet.specs.Lines.{rowOf}
+use Rattle.sheet.proofs.DigitLaws.{columns-from}
 use Rattle.sheet.proofs.LayoutLaws.{node-fits}
 use borrow.Author.Needs.{needs}
 use Rattle.sheet.proofs.read.row_at.Statement.{statement}
@@ -39,10 +40,16 @@ add-middle-4 : tie.Need-add-middle-4
 add-middle-4 c = omega (arith, node-fits (c .before .pre .0 .sized) (c .before .args .i) (c .before .pre .1), c .before .pre .0 .sized .width)
 
 quad-at-requires : tie.Need-quad-at-requires
-quad-at-requires c κs = omega (arith, node-fits (c .before .pre .0 .sized) (c .before .args .i) (c .before .pre .1), c .before .pre .0 .sized .width)
+quad-at-requires c κs =
+    let p = c .before .pre in
+    let i = c .before .args .i in
+    (omega (arith, node-fits (p .0 .sized) i (p .1)), p .0 .sized .width, columns-from 0 4 (p .0 .node-line i (p .1)) (omega arith) (omega arith))
 
 quad-at-requires-2 : tie.Need-quad-at-requires-2
-quad-at-requires-2 c κs = omega (arith, node-fits (c .before .before .pre .0 .sized) (c .before .before .args .i) (c .before .before .pre .1), c .before .before .pre .0 .sized .width)
+quad-at-requires-2 c κs =
+    let p = c .before .before .pre in
+    let i = c .before .before .args .i in
+    (omega (arith, node-fits (p .0 .sized) i (p .1)), p .0 .sized .width, columns-from 4 4 (p .0 .node-line i (p .1)) (omega arith) (omega arith))
 
 row-of-requires : tie.Need-row-of-requires
 row-of-requires c κs = search needs
