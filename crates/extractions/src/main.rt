@@ -1,6 +1,7 @@
 // Runs `extract` on sheets that standard input describes, with lent buffers of every length, and looks at each byte of them afterwards.
-// A case: six numbers in 8 columns and LF: the lengths of out and work, the lengths of three parts, and how often the second part
-// stands; an option line; the parts. It prints the answer's four numbers, how out and work stand, and a text, or its sum where it is long.
+// A case: six numbers in 8 columns and LF, an option line, three parts of a sheet. The numbers: the lengths of out and work, of the first
+// part and of the second, where the repetitions of the second end, and the length of the sheet. It prints the answer's four numbers, how
+// out and work stand, and a text, or its sum where it is long.
 use html2text::Extraction;
 use libc::STDOUT_FILENO;
 use numbers::of_extraction;
@@ -153,7 +154,7 @@ fn repeat(s: &mut [u8], at: usize, len: usize, end: usize) {
     }
 }
 
-// The three parts of a sheet: a bytes, b bytes up to end, and the rest.
+// The three parts of a sheet: a bytes; b bytes, again and again up to end; the rest.
 fn read_sheet(s: &mut [u8], a: usize, b: usize, end: usize) -> bool {
     if !read_part(s, 0, a) {
         return false;
