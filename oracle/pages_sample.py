@@ -151,7 +151,30 @@ def agreed(stdin, by_rust, answers):
     print("%d answers are the Rust's, %d the definitions' alone" % (same, len(cases) - same))
 
 
+def inputs():
+    """Inputs with a wrong option line or too long, and one of the greatest length."""
+    right = pages.STANDING.encode() + b"\n"
+    for at in range(11):
+        yield right[:at]
+    sheet = pages.written("<p>a</p>")
+    for at in range(11):
+        for byte in b"/:" + (b"13" if at == 0 else b"12" if at < 10 else b"\r "):
+            yield right[:at] + bytes([byte]) + right[at + 1:] + sheet
+    for length in (MOST, MOST + 1):
+        yield b"0" * length
+        text = b"a" * (length - len(right) - 33 - 65 * 2 - 4)
+        yield right + b"%8d%8d%8d%8d\n" % (2, 0, 4 + len(text), 0) + b"%8d" * 8 % (0, 1, 0, 0, 4, 0, 0, 0) + b"\n" + b"%8d" * 8 % (1, 3, 0, 0, 0, 4, len(text), 0) + b"\nbody" + text
+
+
+def add_inputs(stdin):
+    with open(stdin, "ab") as f:
+        for case in inputs():
+            f.write(b"%8d\n" % len(case) + case)
+
+
 def main():
+    if sys.argv[1] == "--inputs":
+        return add_inputs(sys.argv[2])
     if sys.argv[1] == "--agreed":
         return agreed(*sys.argv[2:5])
     candidates, counts, program, stdin = sys.argv[1:5]

@@ -3,8 +3,8 @@
 the Rust: that the two agree says that the definitions mean what html2text.rs and filters.rs do. Nothing here was taken from the
 Rust. The patterns are read from crates/patterns/specs/Patterns.antt.
 
-Use: reference.py [--out N] [--work N] [--laws] < cases > answers      (cases and answers as in oracle/rust/src/cases.rs)
---out, --work: the lengths of the lent buffers (none: long enough). --laws: the theorems on pages are tried on each case too.
+Use: reference.py [--program] [--out N] [--work N] [--laws] < cases > answers      (cases and answers as in oracle/rust/src/cases.rs)
+--program: what document 01's program prints, 33 and 34 too. --out, --work: the lengths of the lent buffers (none: long enough). --laws: the theorems on pages are tried on each case too.
 reference.py --needs < cases: the numbers of each without buffers, and with the work that is needed (as oracle/driver.c has it).
 Sheets must be accepted ones."""
 import os
@@ -1120,6 +1120,22 @@ def answer(case, out=None, work=None, laws=False):
     return said + text + b"\n" if numbers[0] == 0 else said
 
 
+# crates/printing/specs/Printed.antt, crates/options/specs/Line.antt
+ROOM = 16384
+
+
+def line_right(case):
+    return len(case) >= 11 and case[10] == 10 and case[0] in b"012" and all(b in b"01" for b in case[1:10])
+
+
+def printed(case):
+    if len(case) > ROOM:
+        return b"%8d%8d%8d%8d\n" % (34, 0, 0, 0)
+    if not line_right(case):
+        return b"%8d%8d%8d%8d\n" % (33, 0, 0, 0)
+    return answer(case, ROOM, ROOM)
+
+
 def needs(case):
     first = second = answer(case, 0, 0)[:33]
     if int(first[:8]) == 31:
@@ -1136,7 +1152,7 @@ def main():
         if not head:
             break
         case = cases.read(int(head))
-        answers.write(needs(case) if "--needs" in args else answer(case, length("--out"), length("--work"), "--laws" in args))
+        answers.write(needs(case) if "--needs" in args else printed(case) if "--program" in args else answer(case, length("--out"), length("--work"), "--laws" in args))
 
 
 if __name__ == "__main__":

@@ -1,5 +1,5 @@
 #!/usr/bin/env python3
-"""Wrong readings of the Rust, each an edit of oracle/reference.py: does the sample of oracle/pages_replay tell it from the right one?
+"""Wrong readings of the Rust, each an edit of oracle/reference.py: does the sample of crates/pages_replay tell it from the right one?
 Use: wrong_readings.py [NAME]
 Ends with 1 if one of them is not told apart. The last list has edits that no sheet can tell apart."""
 import os
@@ -105,7 +105,7 @@ def said(old, new):
     if source.count(old) != 1:
         sys.exit("found %d times: %r" % (source.count(old), old))
     code = "import sys\nexec(compile(sys.argv.pop(1), %r, 'exec'), {'__name__': '__main__', '__file__': %r})" % (REFERENCE, REFERENCE)
-    command = [sys.executable, "-c", code, source.replace(old, new), "--out", "16384", "--work", "16384"]
+    command = [sys.executable, "-c", code, source.replace(old, new), "--program"]
     with open(os.path.join(SAMPLE, "stdin"), "rb") as cases:
         return subprocess.run(command, stdin=cases, stdout=subprocess.PIPE, stderr=subprocess.DEVNULL)
 
