@@ -6,6 +6,7 @@ use native.Mathlib.Nat.{pow-succ', pow-le-pow-right}
 use native.Mathlib.Omega.{arith}
 use lib.Dec.{ltb, eqb, lit<}
 use lib.ListN.{length, getD, take, drop}
+use lib.Seq.{drop-cons}
 use borrow.Author.Tests.{ltb-false, eqb-true}
 use Rattle.common.specs.Bytes.{Bytes}
 use Rattle.common.proofs.Choice.{by-cond}
@@ -96,3 +97,32 @@ digits-small n i h k = omega (arith, pow-le-pow-right {n = 10} (lit< tt) k)
 
 pub digits-room : (n at i b : ℕ) → n + 2 ≤ 2 * 10 ^ (i - at) → at ≤ i → n * 10 + b % 16 + 2 ≤ 2 * 10 ^ (i + 1 - at)
 digits-room n at i b h k = let e : i + 1 - at ≡ suc (i - at) = omega arith in rw e (omega (arith, pow-succ' 10 (i - at)))
+
+-- ---- eight bytes
+
+module _ (s : Bytes) where
+  plain-step : (n m p q : ℕ) → suc p ≡ q → q ≤ length s → plainFrom n (take (suc m) (drop p s)) ≡ plainFrom (n * 10 + getD s p 0 % 16) (take m (drop q s))
+  unfolding plainFrom
+  plain-step n m p q e h = let k : p < length s = omega arith in rw (sym e, drop-cons s p 0 k)
+
+  module _ (at : ℕ) where
+    abbrev eightFrom : ℕ → ℕ → ℕ → ℕ → ℕ → ℕ → ℕ → ℕ → ℕ
+    eightFrom a b c d e f g h = (((((((0 * 10 + a) * 10 + b) * 10 + c) * 10 + d) * 10 + e) * 10 + f) * 10 + g) * 10 + h
+
+    plain-eight : at + 8 ≤ length s → plain (take 8 (drop at s)) ≡ eightFrom (getD s at 0 % 16) (getD s (at + 1) 0 % 16) (getD s (at + 2) 0 % 16) (getD s (at + 3) 0 % 16) (getD s (at + 4) 0 % 16) (getD s (at + 5) 0 % 16) (getD s (at + 6) 0 % 16) (getD s (at + 7) 0 % 16)
+    unfolding plainFrom
+    plain-eight h =
+        plain-step _ 7 at (at + 1) (omega arith) (omega arith)
+        ∙ plain-step _ 6 (at + 1) (at + 2) (omega arith) (omega arith)
+        ∙ plain-step _ 5 (at + 2) (at + 3) (omega arith) (omega arith)
+        ∙ plain-step _ 4 (at + 3) (at + 4) (omega arith) (omega arith)
+        ∙ plain-step _ 3 (at + 4) (at + 5) (omega arith) (omega arith)
+        ∙ plain-step _ 2 (at + 5) (at + 6) (omega arith) (omega arith)
+        ∙ plain-step _ 1 (at + 6) (at + 7) (omega arith) (omega arith)
+        ∙ plain-step _ 0 (at + 7) (at + 8) (omega arith) (omega arith)
+
+    by-fours : (a b c d e f g h : ℕ) → ((a * 10 + b) * 100 + (c * 10 + d)) * 10000 + ((e * 10 + f) * 100 + (g * 10 + h)) ≡ eightFrom a b c d e f g h
+    by-fours a b c d e f g h = omega arith
+
+    pub eight-number : at + 8 ≤ length s → InColumns 8 s at → ((getD s at 0 % 16 * 10 + getD s (at + 1) 0 % 16) * 100 + (getD s (at + 2) 0 % 16 * 10 + getD s (at + 3) 0 % 16)) * 10000 + ((getD s (at + 4) 0 % 16 * 10 + getD s (at + 5) 0 % 16) * 100 + (getD s (at + 6) 0 % 16 * 10 + getD s (at + 7) 0 % 16)) ≡ numberAt 8 s at
+    eight-number h p = by-fours _ _ _ _ _ _ _ _ ∙ sym (plain-eight h) ∙ plain-number 8 s at p

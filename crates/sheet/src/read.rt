@@ -12,11 +12,30 @@ ghost use Rattle.sheet.specs.Columns.{InColumns};
 ghost use Rattle.sheet.specs.Layout.{attributeAt, range, rowAt};
 ghost use Rattle.sheet.specs.Lines.{attributeOf, numberAt, quadFrom};
 
-// The number in the width columns at at: the last four bits of a space are 0, those of a digit its value.
+// The number in the eight columns at at: the last four bits of a space are 0, those of a digit its value.
+fn eight_at(s: &[u8], at: usize) -> usize
+    requires { ⌜ (at + 8 ≤ length (now s)) × InColumns 8 (now s) at ⌝ }
+    ensures { λ r. ⌜ r ≡ numberAt 8 (now (s .entry)) at ⌝ }
+{
+    let a = (s[at] % 16) as usize;
+    let b = (s[at + 1] % 16) as usize;
+    let c = (s[at + 2] % 16) as usize;
+    let d = (s[at + 3] % 16) as usize;
+    let e = (s[at + 4] % 16) as usize;
+    let f = (s[at + 5] % 16) as usize;
+    let g = (s[at + 6] % 16) as usize;
+    let h = (s[at + 7] % 16) as usize;
+    ((a * 10 + b) * 100 + (c * 10 + d)) * 10000 + ((e * 10 + f) * 100 + (g * 10 + h))
+}
+
+// The number in the width columns at at.
 fn digits_at(s: &[u8], at: usize, width: usize) -> usize
     requires { ⌜ (at + width ≤ length (now s)) × (width ≤ 10) × InColumns width (now s) at ⌝ }
     ensures { λ r. ⌜ r ≡ numberAt width (now (s .entry)) at ⌝ }
 {
+    if width == 8 {
+        return eight_at(s, at);
+    }
     let end = at + width;
     let mut n = 0;
     let mut i = at;
