@@ -1,6 +1,6 @@
 -- A row is left out by what is noted of it and by the filters; without them, what is noted says it of every row.
 use mathlib.Core.Path.{_≡_, refl, sym, ap, _∙_}
-use mathlib.Core.Bool.{Bool, true, false, not, _||_}
+use mathlib.Core.Bool.{Bool, true, false, not, _||_, or-assoc, or-false}
 use mathlib.Core.List.{List}
 use mathlib.Core.Option.{Option, none, some}
 use Prim.Native.Nat.{ℕ, zero, suc, _-_, _≤_, _<_}
@@ -45,14 +45,6 @@ module _ (nodeOf : ℕ → Node) (column : List ℕ) where
           (omega arith, omega arith)
 
 -- ---- a row
-
-or-assoc : (a b c : Bool) → ((a || b) || c) ≡ (a || (b || c))
-or-assoc true b c = refl
-or-assoc false b c = refl
-
-or-false : (a : Bool) → (a || false) ≡ a
-or-false true = refl
-or-false false = refl
 
 module _ (s : Bytes) (l : Layout) (o : ExtractOptions) where
   left-out-split : (i : ℕ) → leftOutAt s l o i ≡ (commentOrMarked s l i || filtered (pageOf s l) o i)
