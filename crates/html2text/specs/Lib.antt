@@ -8,5 +8,6 @@ pub mod Fused
 pub mod Levels
 pub mod Pieces
 pub mod Serialize
+pub mod Showing
 pub mod Theorems
 pub mod Walk

@@ -14,6 +14,16 @@ pub struct ExtractNode {
     pub escape: bool,
 }
 
+// How the text of an entry is shown, piece by piece: of a cell's end nothing; its blanks collapsed, and escaped, where so; `empty`: nothing
+// was shown yet; `space`: a blank stands before the next byte, or counts as if it did.
+pub struct Showing {
+    pub dropped: bool,
+    pub squeeze: bool,
+    pub escapes: bool,
+    pub empty: bool,
+    pub space: bool,
+}
+
 // What an extraction answers: a text's visits and length; a sheet that is refused; the line of the node whose list level or open
 // row would be one too many; the need of a buffer that is too short.
 pub enum Extraction {
