@@ -19,6 +19,7 @@ pub mod PageLaws
 pub mod RiseLaws
 pub mod RunLaws
 pub mod SaidLaws
+pub mod ShowingLaws
 pub mod Standing
 pub mod StepBounds
 pub mod WalkLaws

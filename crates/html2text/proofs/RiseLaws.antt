@@ -249,10 +249,10 @@ pub record Onward (R R′ : Run) : Type 0 where
   pub levels : (line : ℕ) → R ≡ tooManyLevels line → R′ ≡ tooManyLevels line
   pub rows : (line : ℕ) → R ≡ tooManyRows line → R′ ≡ tooManyRows line
 
-onward-none : {R : Run} → Onward R R
+pub onward-none : {R : Run} → Onward R R
 onward-none = record { before = λ T e. record { state = T; is = e; rises = omega arith }; levels = λ line e. e; rows = λ line e. e }
 
-onward-then : {R R′ R″ : Run} → Onward R R′ → Onward R′ R″ → Onward R R″
+pub onward-then : {R R′ R″ : Run} → Onward R R′ → Onward R′ R″ → Onward R R″
 onward-then a b =
     record {
       before = λ T e. let k = b .before T e in let j = a .before (k .state) (k .is) in record { state = j .state; is = j .is; rises = omega (arith, j .rises, k .rises) };

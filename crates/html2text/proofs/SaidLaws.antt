@@ -136,11 +136,11 @@ cell-of comment name value attributes o end h = absurd-test h refl
 pub cell-said : (o : ExtractOptions) (n : Node) (end : Bool) → isCellNode n ≡ true → said o n end ≡ []
 cell-said o n end h = cell-of (n .kind) (n .name) (n .value) (n .attributes) o end h
 
--- blank text has no other byte
-empty-nil : (s : Bytes) → isEmpty s ≡ true → s ≡ []
+pub empty-nil : (s : Bytes) → isEmpty s ≡ true → s ≡ []
 empty-nil [] h = refl
 empty-nil (c ∷ s) h = absurd-test h refl
 
+-- blank text has no other byte
 blank-of : (k : Kind) (name value : Bytes) (attributes : List Attribute) (o : ExtractOptions) (end : Bool) → (isText k && isEmpty (struck value)) ≡ true
     → said o (record { kind = k; name = name; value = value; attributes = attributes }) end ≡ []
 unfolding rowPieces struckAll
