@@ -14,6 +14,7 @@ pub mod LevelMetLaws
 pub mod LostStrip
 pub mod MeasureLaws
 pub mod OffLaws
+pub mod OpenLaws
 pub mod PageBounds
 pub mod PageLaws
 pub mod RiseLaws
