@@ -24,7 +24,7 @@ use Rattle.serializer.specs.Serializing.{setWriter, setMargins, Lent, le
 use Rattle.serializer.specs.declared.Serializer.{Serializer}
 use Rattle.serializer.proofs.MarginLaws.{rises-margin, rises-block}
 use Rattle.serializer.proofs.StandsLaws.{stands-margins}
-use Rattle.serializer.proofs.TextLaws.{rises-put-text}
+use Rattle.serializer.proofs.TextLaws.{rises-put-text, put-text-nothing}
 use Rattle.serializer.proofs.WorksLaws.{Rises, rises-none, rises-then, rises-cond, rises-out, out-none, out-by, out-able-by, text-ready, text-works}
 
 -- ---- a change of the text that looks at the depth
@@ -226,18 +226,19 @@ module _ (tag : ℕ) where
 
 -- ---- the end of the step
 
-module _ {write : Bool} {s : Serializer} {buf : Bytes} (bullets : Bool) (n : ExtractNode) (text : Bytes) {block : Bool} (e : block ≡ blockAfterTag bullets n (s .uncollapsed)) where
+module _ {write : Bool} {s : Serializer} {buf : Bytes} (bullets : Bool) (n : ExtractNode) {block : Bool} (e : block ≡ blockAfterTag bullets n (s .uncollapsed)) where
   finish-is : (numbering : List ℕ) (cells : List Bool) (under : Bytes) (S : State) → Stands write under s (lent numbering cells buf) S
-      → finishHtml bullets n text S ≡ putText false false bullets n block text (blockMargin block n (htmlTag bullets n (blockAfterMarks bullets n) S))
+      → finishHtml bullets n [] S ≡ blockMargin block n (htmlTag bullets n (blockAfterMarks bullets n) S)
   unfolding finishHtml
   finish-is numbering cells under S h =
-      ap (λ (b : Bool). putText false false bullets n b text (blockMargin b n (htmlTag bullets n (blockAfterMarks bullets n) S))) (ap (blockAfterTag bullets n) (sym (h .uncollapsed)) ∙ sym e)
+      ap (λ (b : Bool). putText false false bullets n b [] (blockMargin b n (htmlTag bullets n (blockAfterMarks bullets n) S))) (ap (blockAfterTag bullets n) (sym (h .uncollapsed)) ∙ sym e)
+      ∙ put-text-nothing false false bullets n block (blockMargin block n (htmlTag bullets n (blockAfterMarks bullets n) S))
 
-  pub finish-able : AbleOut write s buf (finishHtml bullets n text) → AbleOut write s buf (λ S. putText false false bullets n block text (blockMargin block n (htmlTag bullets n (blockAfterMarks bullets n) S)))
+  pub finish-able : AbleOut write s buf (finishHtml bullets n []) → AbleOut write s buf (λ S. blockMargin block n (htmlTag bullets n (blockAfterMarks bullets n) S))
   finish-able r = out-able-by r finish-is
 
-  pub finish-works : {s′ : Serializer} {buf′ : Bytes} → WorksOut write s buf s′ buf′ (λ S. putText false false bullets n block text (blockMargin block n (htmlTag bullets n (blockAfterMarks bullets n) S)))
-      → WorksOut write s buf s′ buf′ (finishHtml bullets n text)
+  pub finish-works : {s′ : Serializer} {buf′ : Bytes} → WorksOut write s buf s′ buf′ (λ S. blockMargin block n (htmlTag bullets n (blockAfterMarks bullets n) S))
+      → WorksOut write s buf s′ buf′ (finishHtml bullets n [])
   finish-works d = out-by d (λ numbering cells under S h. sym (finish-is numbering cells under S h))
 
 -- ---- the greatest length never falls

@@ -2,6 +2,7 @@ pub mod HtmlLaws
 pub mod LevelLaws
 pub mod MarginLaws
 pub mod RowLaws
+pub mod ShowingLaws
 pub mod StandsLaws
 pub mod StepLaws
 pub mod TextLaws

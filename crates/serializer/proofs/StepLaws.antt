@@ -1,7 +1,7 @@
 -- A step: rows and cells first, then what the formatting asks for.
 use mathlib.Core.Path.{_≡_, refl, sym, _∙_}
 use mathlib.Core.Bool.{Bool, true, false, _&&_}
-use mathlib.Core.List.{List}
+use mathlib.Core.List.{List, []}
 use Prim.Native.Nat.{ℕ, _-_, _≤_, _<_}
 use native.Mathlib.Omega.{arith}
 use lib.Dec.{eqb}
@@ -20,6 +20,7 @@ use Rattle.serializer.proofs.HtmlLaws.{margins-marks, rises-html-marks,
 use Rattle.serializer.proofs.LevelLaws.{margins-levels, margins-item, rises-levels, rises-item}
 use Rattle.serializer.proofs.RowLaws.{rises-rows, rises-cell}
 use Rattle.serializer.proofs.StandsLaws.{depth-long}
+use Rattle.serializer.proofs.TextLaws.{put-text-nothing}
 use Rattle.serializer.proofs.WorksLaws.{Rises, rises-then, rises-cond, works-then, works-by, able-first, able-by, able-then}
 
 -- ---- the three formattings, as their parts
@@ -35,6 +36,13 @@ after-basic-is bullets n text S = refl
 pub after-html-is : (bullets : Bool) (n : ExtractNode) (text : Bytes) (S : State) → afterHtml bullets n text S ≡ finishHtml bullets n text (htmlMarks bullets n (levels n S))
 unfolding afterHtml levels
 after-html-is bullets n text S = refl
+
+-- without a text
+pub after-off-none : (bullets : Bool) (n : ExtractNode) (S : State) → afterOff bullets n [] S ≡ blockMargin (n .block) n S
+after-off-none bullets n S = after-off-is bullets n [] S ∙ put-text-nothing true false bullets n (n .block) (blockMargin (n .block) n S)
+
+pub after-basic-none : (bullets : Bool) (n : ExtractNode) (S : State) → afterBasic bullets n [] S ≡ blockMargin (n .block) n (item bullets n (levels n S))
+after-basic-none bullets n S = after-basic-is bullets n [] S ∙ put-text-nothing false true bullets n (n .block) (blockMargin (n .block) n (item bullets n (levels n S)))
 
 pub rises-after : (f : Formatting) (bullets : Bool) (n : ExtractNode) (text : Bytes) → Rises (after f bullets n text)
 rises-after Off bullets n text = record { rise = λ S. rw (after-off-is bullets n text S) (rises-rest true false bullets n (n .block) text .rise S) }

@@ -148,7 +148,7 @@ pub rises-prefix : Rises prefixOut
 unfolding prefixOut
 rises-prefix = record { rise = λ S. grows-push-all (S .prefix) .grow (S .out) }
 
-rises-lead : (basic bullets : Bool) → Rises (lead basic bullets)
+pub rises-lead : (basic bullets : Bool) → Rises (lead basic bullets)
 rises-lead basic bullets = record { rise = λ S. rw (lead-is basic bullets S) (rises-then (rises-indent basic bullets) rises-prefix .rise S) }
 
 -- ---- the text
@@ -199,29 +199,10 @@ rises-put-text off basic bullets n block text =
           (rises-then (rises-margin (collapses off n) off) (rises-behind basic bullets (collapses off n) (trims block S) (n .escape) text) .rise S));
     }
 
-module _ {write : Bool} {s : Serializer} (off basic bullets : Bool) (n : ExtractNode) (block : Bool) (text : Bytes) {squeeze trim shows : Bool}
-    (squeeze-is : squeeze ≡ collapses off n) (trim-is : trim ≡ (block || ltb (s .writer .kept) (s .writer .len))) (shows-is : shows ≡ not (isEmpty (shortened squeeze trim text))) where
-  left-is : {t : Bool} → shows ≡ not t → {under : Bytes} {a : Lent} {S : State} → Stands write under s a S → isEmpty (shortened (collapses off n) (trims block S) text) ≡ t
-  left-is {t} e {S = S} h = rw (trims-is block h, ← trim-is, ← squeeze-is) (not-same (sym shows-is ∙ e))
-    where
-      not-same : {x y : Bool} → not x ≡ not y → x ≡ y
-      not-same {x = true} {y = true} q = refl
-      not-same {x = true} {y = false} q = sym q
-      not-same {x = false} {y = true} q = sym q
-      not-same {x = false} {y = false} q = refl
-
-  module _ {buf : Bytes} (e : shows ≡ true) where
-    behind-is : (numbering : List ℕ) (cells : List Bool) (under : Bytes) (S : State) → Stands write under s (lent numbering cells buf) S
-        → putText off basic bullets n block text S ≡ showText squeeze trim (n .escape) text (lead basic bullets (withUncollapsed 0 (margin squeeze off S)))
-    behind-is numbering cells under S h =
-        put-text-is off basic bullets n block text S (left-is e h) ∙ rw (trims-is block h, ← trim-is, ← squeeze-is)
-
-    pub put-text-able : AbleOut write s buf (putText off basic bullets n block text) → AbleOut write s buf (λ S. showText squeeze trim (n .escape) text (lead basic bullets (withUncollapsed 0 (margin squeeze off S))))
-    put-text-able r = out-able-by r behind-is
-
-    pub put-text-works : {s′ : Serializer} {buf′ : Bytes} → WorksOut write s buf s′ buf′ (λ S. showText squeeze trim (n .escape) text (lead basic bullets (withUncollapsed 0 (margin squeeze off S))))
-        → WorksOut write s buf s′ buf′ (putText off basic bullets n block text)
-    put-text-works d = out-by d (λ numbering cells under S h. sym (behind-is numbering cells under S h))
-
-  pub put-text-none : {buf : Bytes} → shows ≡ false → WorksOut write s buf s buf (putText off basic bullets n block text)
-  put-text-none e = out-by out-none (λ numbering cells under S h. sym (put-text-empty off basic bullets n block text S (left-is e h)))
+pub put-text-nothing : (off basic bullets : Bool) (n : ExtractNode) (block : Bool) (S : State) → putText off basic bullets n block [] S ≡ S
+put-text-nothing off basic bullets n block S = put-text-empty off basic bullets n block [] S (nothing-left (collapses off n) (trims block S))
+  where
+    nothing-left : (squeeze trim : Bool) → isEmpty (shortened squeeze trim []) ≡ true
+    nothing-left true true = empty-trimmed []
+    nothing-left true false = empty-collapsed []
+    nothing-left false trim = refl

@@ -13,7 +13,6 @@ use crate::margins::block_margin;
 use crate::margins::collapses;
 use crate::margins::margin;
 use crate::margins::strip_if;
-use crate::texts::put_text;
 use html2text::ExtractNode;
 use writer::Writer;
 ghost use mathlib.Core.Bool.{_&&_, _||_, cond, not, true};
@@ -301,7 +300,7 @@ fn block_after_marks(bullets: bool, n: ExtractNode) -> bool
 }
 
 // `n.block` behind a tag.
-fn block_after_tag(bullets: bool, n: ExtractNode, uncollapsed: usize) -> bool
+pub fn block_after_tag(bullets: bool, n: ExtractNode, uncollapsed: usize) -> bool
     ensures { λ r. ⌜ r ≡ blockAfterTag bullets n uncollapsed ⌝ }
 {
     let block = block_after_marks(bullets, n);
@@ -314,21 +313,19 @@ fn block_after_tag(bullets: bool, n: ExtractNode, uncollapsed: usize) -> bool
     block
 }
 
-// The tag, the margin and the text.
+// The tag and the margin.
 pub fn finish_html(
     s: Serializer,
     n: ExtractNode,
     bullets: bool,
-    text: &[u8],
     out: &mut [u8],
     write: bool,
 ) -> Serializer
     requires { ⌜ s .margins < 4611686018427387904 ⌝ }
-    requires { ⌜ AbleOut write s (now out) (finishHtml bullets n (now text)) ⌝ }
-    ensures { λ r. ⌜ WorksOut write s (now (out .entry)) r (now (out .exit)) (finishHtml bullets n (now (text .entry))) ⌝ }
+    requires { ⌜ AbleOut write s (now out) (finishHtml bullets n []) ⌝ }
+    ensures { λ r. ⌜ WorksOut write s (now (out .entry)) r (now (out .exit)) (finishHtml bullets n []) ⌝ }
 {
     let block = block_after_tag(bullets, n, s.uncollapsed);
     let a = html_tag(s, n, bullets, block_after_marks(bullets, n), out, write);
-    let b = block_margin(a, block, n);
-    put_text(b, n, block, false, false, bullets, text, out, write)
+    block_margin(a, block, n)
 }

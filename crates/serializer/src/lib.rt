@@ -1,11 +1,12 @@
-// One step of `serialize`, over numbers and lent arrays: its text is written, or only measured.
+// One step of `serialize`, over numbers and lent arrays, its text piece by piece: it is written, or only measured.
 mod html;
 mod lists;
 mod margins;
 mod rows;
 pub mod step;
-mod texts;
+pub mod texts;
 
+use html2text::Showing;
 use writer::Writer;
 ghost use mathlib.Core.Path.{_≡_};
 ghost use Prim.Native.Nat.{_-_};
@@ -48,6 +49,21 @@ pub struct Serializer {
     pub rows: usize,
     pub prefix: Prefix,
     pub bullet: bool,
+}
+
+// Behind all of a step but the text, and how the text is shown.
+pub struct Begun {
+    pub serializer: Serializer,
+    pub showing: Showing,
+}
+
+// Along an entry: the state with what is known of its text; how more of it is shown; the length of its text before it is shortened, and
+// the greatest such length so far.
+pub struct Progress {
+    pub serializer: Serializer,
+    pub len: usize,
+    pub need: usize,
+    pub showing: Showing,
 }
 
 impl Serializer {

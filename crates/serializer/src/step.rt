@@ -1,6 +1,8 @@
-// One entry of `serialize`.
+// An entry of `serialize`, all but its text.
+use crate::Begun;
 use crate::CELL;
 use crate::Serializer;
+use crate::html::block_after_tag;
 use crate::html::finish_html;
 use crate::html::html_marks;
 use crate::lists::item;
@@ -8,16 +10,20 @@ use crate::lists::levels;
 use crate::margins::block_margin;
 use crate::rows::cell;
 use crate::rows::rows;
-use crate::texts::put_text;
+use crate::texts::showing_of;
 use html2text::ExtractNode;
+use html2text::Showing;
 use options::Formatting;
-ghost use mathlib.Core.Bool.{_&&_};
+ghost use mathlib.Core.Bool.{_&&_, false};
+ghost use mathlib.Core.List.{[]};
 ghost use mathlib.Core.Path.{_≡_};
 ghost use Prim.Native.Nat.{_<_};
-ghost use Rattle.html2text.specs.Serialize.{afterBasic, afterHtml, afterOff, step};
+ghost use Rattle.html2text.specs.Serialize.{after, afterBasic, afterHtml, afterOff, blockAfterTag, step};
+ghost use Rattle.html2text.specs.Showing.{droppedShowing};
 ghost use Rattle.options.specs.Options.{isOff};
 ghost use Rattle.tags.specs.Tags.{isCell};
-ghost use Rattle.serializer.specs.Serializing.{Able, AbleListed, AbleOut, Limits, ListLimits, Numbers, Works, WorksListed, WorksOut, lent};
+ghost use Rattle.serializer.specs.Progress.{AbleLevels, Begins, blockBefore};
+ghost use Rattle.serializer.specs.Serializing.{Able, AbleListed, Limits, ListLimits, Numbers, WorksAlone, WorksLevels, WorksListed, lent};
 
 pub fn is_off(f: Formatting) -> bool
     ensures { λ r. ⌜ r ≡ isOff f ⌝ }
@@ -36,83 +42,113 @@ fn is_dropped(n: ExtractNode) -> bool
     n.tag == CELL && n.end
 }
 
-fn after_off(
-    s: Serializer,
-    n: ExtractNode,
-    bullets: bool,
-    text: &[u8],
-    out: &mut [u8],
-    write: bool,
-) -> Serializer
+fn after_off(s: Serializer, n: ExtractNode, bullets: bool) -> Serializer
     requires { ⌜ s .margins < 4611686018427387904 ⌝ }
-    requires { ⌜ AbleOut write s (now out) (afterOff bullets n (now text)) ⌝ }
-    ensures { λ r. ⌜ WorksOut write s (now (out .entry)) r (now (out .exit)) (afterOff bullets n (now (text .entry))) ⌝ }
+    ensures { λ r. ⌜ WorksAlone s r (afterOff bullets n []) ⌝ }
 {
-    let a = block_margin(s, n.block, n);
-    put_text(a, n, n.block, true, false, bullets, text, out, write)
+    block_margin(s, n.block, n)
 }
 
-fn after_basic(
-    s: Serializer,
-    n: ExtractNode,
-    bullets: bool,
-    text: &[u8],
-    numbering: &mut [usize],
-    out: &mut [u8],
-    write: bool,
-) -> Serializer
+fn after_basic(s: Serializer, n: ExtractNode, bullets: bool, numbering: &mut [usize]) -> Serializer
     requires { ⌜ ListLimits s (now numbering) n × Numbers s (now numbering) ⌝ }
-    requires { ⌜ AbleListed write s (now numbering) (now out) (afterBasic bullets n (now text)) ⌝ }
-    ensures { λ r. ⌜ WorksListed write s (now (numbering .entry)) (now (out .entry)) r (now (numbering .exit)) (now (out .exit)) (afterBasic bullets n (now (text .entry))) ⌝ }
+    requires { ⌜ AbleLevels s (now numbering) (afterBasic bullets n []) ⌝ }
+    ensures { λ r. ⌜ WorksLevels s (now (numbering .entry)) r (now (numbering .exit)) (afterBasic bullets n []) ⌝ }
 {
     let a = levels(s, n, numbering);
     let b = item(a, n, bullets, numbering);
-    let d = block_margin(b, n.block, n);
-    put_text(d, n, n.block, false, true, bullets, text, out, write)
+    block_margin(b, n.block, n)
 }
 
 fn after_html(
     s: Serializer,
     n: ExtractNode,
     bullets: bool,
-    text: &[u8],
     numbering: &mut [usize],
     out: &mut [u8],
     write: bool,
 ) -> Serializer
     requires { ⌜ ListLimits s (now numbering) n ⌝ }
-    requires { ⌜ AbleListed write s (now numbering) (now out) (afterHtml bullets n (now text)) ⌝ }
-    ensures { λ r. ⌜ WorksListed write s (now (numbering .entry)) (now (out .entry)) r (now (numbering .exit)) (now (out .exit)) (afterHtml bullets n (now (text .entry))) ⌝ }
+    requires { ⌜ AbleListed write s (now numbering) (now out) (afterHtml bullets n []) ⌝ }
+    ensures { λ r. ⌜ WorksListed write s (now (numbering .entry)) (now (out .entry)) r (now (numbering .exit)) (now (out .exit)) (afterHtml bullets n []) ⌝ }
 {
     let a = levels(s, n, numbering);
     let b = html_marks(a, n, bullets, out, write);
-    finish_html(b, n, bullets, text, out, write)
+    finish_html(b, n, bullets, out, write)
 }
 
-// One pass of `serialize`'s loop.
-pub fn step(
+// What the formatting asks for, before the text.
+fn after(
     f: Formatting,
     s: Serializer,
     n: ExtractNode,
     bullets: bool,
-    text: &[u8],
+    numbering: &mut [usize],
+    out: &mut [u8],
+    write: bool,
+) -> Serializer
+    requires { ⌜ (s .margins < 4611686018427387904) × (isOff f ≡ false → ListLimits s (now numbering) n) × Numbers s (now numbering) ⌝ }
+    requires { ⌜ AbleListed write s (now numbering) (now out) (after f bullets n []) ⌝ }
+    ensures { λ r. ⌜ WorksListed write s (now (numbering .entry)) (now (out .entry)) r (now (numbering .exit)) (now (out .exit)) (after f bullets n []) ⌝ }
+{
+    match f {
+        Formatting::Off => after_off(s, n, bullets),
+        Formatting::Basic => after_basic(s, n, bullets, numbering),
+        Formatting::MinimalHtml => after_html(s, n, bullets, numbering, out, write),
+    }
+}
+
+// `n.block` where the text is put, by the uncollapsed line ends before the entry.
+fn block_before(f: Formatting, bullets: bool, n: ExtractNode, uncollapsed: usize) -> bool
+    ensures { λ r. ⌜ r ≡ blockBefore f bullets n uncollapsed ⌝ }
+{
+    match f {
+        Formatting::Off => n.block,
+        Formatting::Basic => n.block,
+        Formatting::MinimalHtml => block_after_tag(bullets, n, uncollapsed),
+    }
+}
+
+fn dropped_showing() -> Showing
+    ensures { λ r. ⌜ r ≡ droppedShowing ⌝ }
+{
+    Showing {
+        dropped: true,
+        squeeze: false,
+        escapes: false,
+        empty: true,
+        space: false,
+    }
+}
+
+// One pass of `serialize`'s loop up to its text, and how the text is shown.
+pub fn begin(
+    f: Formatting,
+    s: Serializer,
+    n: ExtractNode,
+    bullets: bool,
     numbering: &mut [usize],
     cells: &mut [bool],
     out: &mut [u8],
     write: bool,
-) -> Serializer
+) -> Begun
     requires { ⌜ Limits f s (now numbering) (now cells) n ⌝ }
-    requires { ⌜ Able write s (lent (now numbering) (now cells) (now out)) (step f bullets n (now text)) ⌝ }
-    ensures { λ r. ⌜ Works write s (lent (now (numbering .entry)) (now (cells .entry)) (now (out .entry))) r (lent (now (numbering .exit)) (now (cells .exit)) (now (out .exit))) (step f bullets n (now (text .entry))) ⌝ }
+    requires { ⌜ Able write s (lent (now numbering) (now cells) (now out)) (step f bullets n []) ⌝ }
+    ensures { λ r. ⌜ Begins f bullets n write s (lent (now (numbering .entry)) (now (cells .entry)) (now (out .entry))) r (lent (now (numbering .exit)) (now (cells .exit)) (now (out .exit))) ⌝ }
 {
     let a = rows(s, n, cells);
     if is_dropped(n) {
-        return a;
+        let showing = dropped_showing();
+        return Begun {
+            serializer: a,
+            showing,
+        };
     }
     let b = cell(a, n, is_off(f), cells, out, write);
-    match f {
-        Formatting::Off => after_off(b, n, bullets, text, out, write),
-        Formatting::Basic => after_basic(b, n, bullets, text, numbering, out, write),
-        Formatting::MinimalHtml => after_html(b, n, bullets, text, numbering, out, write),
+    let block = block_before(f, bullets, n, b.uncollapsed);
+    let serializer = after(f, b, n, bullets, numbering, out, write);
+    let showing = showing_of(is_off(f), n, block, serializer.writer);
+    Begun {
+        serializer,
+        showing,
     }
 }

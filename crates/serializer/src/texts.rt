@@ -1,17 +1,25 @@
-// The text of an entry, and what stands before it.
+// The text of an entry, piece by piece, and what stands before it.
 use crate::Prefix;
+use crate::Progress;
 use crate::Serializer;
 use crate::margins::collapses;
 use crate::margins::margin;
+use crate::step::is_off;
 use html2text::ExtractNode;
+use html2text::Showing;
+use options::Formatting;
 use writer::Writer;
 ghost use mathlib.Core.Bool.{_&&_, _||_, not};
 ghost use mathlib.Core.Path.{_≡_};
 ghost use lib.Dec.{ltb};
 ghost use Rattle.common.specs.Bytes.{isEmpty};
-ghost use Rattle.html2text.specs.Serialize.{indentText, lead, one, putText, shortened};
+ghost use Rattle.html2text.specs.Serialize.{indentText, lead, one, shortened};
+ghost use Rattle.html2text.specs.Showing.{leadIn, showPiece, showsAny};
+ghost use Rattle.options.specs.Options.{isBasic};
+ghost use Rattle.text.specs.Text.{isSpace, spaceAfter};
 ghost use Rattle.writer.specs.Out.{pushAll};
 ghost use Rattle.writer.specs.Writing.{Does, Ready};
+ghost use Rattle.serializer.specs.Progress.{ShowReady, Shows, showingBehind, showingThen};
 ghost use Rattle.serializer.specs.Serializing.{AbleOut, WorksOut, allBlank, prefixText};
 
 fn is_blank(text: &[u8]) -> bool
@@ -115,31 +123,132 @@ fn lead(s: Serializer, basic: bool, bullets: bool, out: &mut [u8], write: bool) 
     }
 }
 
-// The text of an entry; `block` is `n.block` there.
-pub fn put_text(
-    s: Serializer,
-    n: ExtractNode,
-    block: bool,
-    off: bool,
-    basic: bool,
+// How the text of an entry is shown, behind what stands before it.
+pub fn showing_of(off: bool, n: ExtractNode, block: bool, w: Writer) -> Showing
+    ensures { λ r. ⌜ r ≡ showingBehind off n block w ⌝ }
+{
+    let squeeze = collapses(off, n);
+    let space = trims(block, w);
+    Showing {
+        dropped: false,
+        squeeze,
+        escapes: n.escape,
+        empty: true,
+        space,
+    }
+}
+
+fn is_basic(f: Formatting) -> bool
+    ensures { λ r. ⌜ r ≡ isBasic f ⌝ }
+{
+    match f {
+        Formatting::Off => false,
+        Formatting::Basic => true,
+        Formatting::MinimalHtml => false,
+    }
+}
+
+// Margin, indentation and prefix, where nothing was shown yet.
+fn lead_in(
+    f: Formatting,
     bullets: bool,
-    text: &[u8],
+    s: Serializer,
+    w: Showing,
     out: &mut [u8],
     write: bool,
 ) -> Serializer
-    requires { ⌜ AbleOut write s (now out) (putText off basic bullets n block (now text)) ⌝ }
-    ensures { λ r. ⌜ WorksOut write s (now (out .entry)) r (now (out .exit)) (putText off basic bullets n block (now (text .entry))) ⌝ }
+    requires { ⌜ AbleOut write s (now out) (leadIn f bullets w) ⌝ }
+    ensures { λ r. ⌜ WorksOut write s (now (out .entry)) r (now (out .exit)) (leadIn f bullets w) ⌝ }
 {
-    let squeeze = collapses(off, n);
-    let trim = trims(block, s.writer);
-    if shows(text, squeeze, trim) {
-        let mut a = margin(s, squeeze, off, out, write);
+    if w.empty {
+        let mut a = margin(s, w.squeeze, is_off(f), out, write);
         a.uncollapsed = 0;
-        let b = lead(a, basic, bullets, out, write);
-        let w = writer::put_text(b.writer, text, squeeze, trim, n.escape, out, write);
-        let mut r = b;
-        r.writer = w;
-        return r;
+        return lead(a, is_basic(f), bullets, out, write);
     }
     s
+}
+
+// Whether a piece changes nothing; any: whether anything of it is left once it is shortened.
+fn is_silent(w: Showing, any: bool) -> bool
+    ensures { λ r. ⌜ r ≡ (w .dropped || (w .empty && not any)) ⌝ }
+{
+    if w.dropped {
+        return true;
+    }
+    w.empty && !any
+}
+
+// A piece of the text; any: whether anything of it is left once it is shortened.
+fn show_piece(
+    f: Formatting,
+    bullets: bool,
+    s: Serializer,
+    w: Showing,
+    any: bool,
+    piece: &[u8],
+    out: &mut [u8],
+    write: bool,
+) -> Serializer
+    requires { ⌜ any ≡ showsAny w (now piece) ⌝ }
+    requires { ⌜ AbleOut write s (now out) (showPiece f bullets w (now piece)) ⌝ }
+    ensures { λ r. ⌜ WorksOut write s (now (out .entry)) r (now (out .exit)) (showPiece f bullets w (now (piece .entry))) ⌝ }
+{
+    if is_silent(w, any) {
+        return s;
+    }
+    let a = lead_in(f, bullets, s, w, out, write);
+    let q = writer::put_text(a.writer, piece, w.squeeze, w.space, w.escapes, out, write);
+    let mut r = a;
+    r.writer = q;
+    r
+}
+
+// Whether a blank stands last.
+fn space_after(space: bool, piece: &[u8]) -> bool
+    ensures { λ r. ⌜ r ≡ spaceAfter isSpace space (now (piece .entry)) ⌝ }
+{
+    let n = piece.len();
+    if n == 0 {
+        return space;
+    }
+    text::is_space(piece[n - 1])
+}
+
+fn showing_after(w: Showing, any: bool, space: bool) -> Showing
+    ensures { λ r. ⌜ r ≡ showingThen w any space ⌝ }
+{
+    let empty = w.empty && !any;
+    Showing {
+        dropped: w.dropped,
+        squeeze: w.squeeze,
+        escapes: w.escapes,
+        empty,
+        space,
+    }
+}
+
+// A piece more of the open entry's text.
+pub fn show(
+    f: Formatting,
+    bullets: bool,
+    p: Progress,
+    piece: &[u8],
+    out: &mut [u8],
+    write: bool,
+) -> Progress
+    requires { ⌜ ShowReady f bullets write p (now out) (now piece) ⌝ }
+    ensures { λ r. ⌜ Shows f bullets write p (now (out .entry)) r (now (out .exit)) (now (piece .entry)) ⌝ }
+{
+    let w = p.showing;
+    let any = shows(piece, w.squeeze, w.space);
+    let serializer = show_piece(f, bullets, p.serializer, w, any, piece, out, write);
+    let showing = showing_after(w, any, space_after(w.space, piece));
+    let len = p.len + piece.len();
+    let need = writer::greater(p.need, len);
+    Progress {
+        serializer,
+        len,
+        need,
+        showing,
+    }
 }
