@@ -8,10 +8,10 @@ use native.Mathlib.Numerals.{add-one}
 use lib.Dec.{eqb}
 use lib.ListN.{length, getD, drop, length-append, drop-of-length-le}
 use lib.Seq.{drop-cons}
-use borrow.Author.Tests.{eq-eqb, ne-eqb}
+use borrow.Author.Tests.{eqb-true, eq-eqb, ne-eqb}
 use Rattle.common.specs.Answer.{capped}
 use Rattle.common.specs.Bytes.{Bytes, codes}
-use Rattle.common.proofs.Choice.{by-cond}
+use Rattle.common.proofs.Choice.{by-cond, by-test}
 use Rattle.text.specs.Text.{escaped, escape}
 
 pub escape-append : (s t : Bytes) → escape (s ++ t) ≡ escape s ++ escape t
@@ -38,6 +38,15 @@ escaped-greater c e = rw e
 pub escaped-other : (c : ℕ) → (c ≡ 38 → ⊥) → (c ≡ 34 → ⊥) → (c ≡ 60 → ⊥) → (c ≡ 62 → ⊥) → escaped c ≡ c ∷ []
 unfolding escaped
 escaped-other c n m l g = simp (ne-eqb c 38 n, ne-eqb c 34 m, ne-eqb c 60 l, ne-eqb c 62 g)
+
+-- what holds of each entity, and of a byte that has none
+pub escaped-cases {ℓ} : (P : ℕ → Bytes → Type ℓ) → P 38 (codes "&amp;") → P 34 (codes "&quot;") → P 60 (codes "&lt;") → P 62 (codes "&gt;") → ((c : ℕ) → P c (c ∷ [])) → (c : ℕ) → P c (escaped c)
+unfolding escaped
+escaped-cases P a q l g other c =
+    by-test (eqb c 38) (λ e. rw (eqb-true c 38 e) a)
+    (λ n. by-test (eqb c 34) (λ e. rw (eqb-true c 34 e) q)
+    (λ m. by-test (eqb c 60) (λ e. rw (eqb-true c 60 e) l)
+    (λ k. by-test (eqb c 62) (λ e. rw (eqb-true c 62 e) g) (λ j. rw (n, m, k, j) (other c)))))
 
 -- one to six bytes a character
 pub escaped-length : (c : ℕ) → (1 ≤ length (escaped c)) × (length (escaped c) ≤ 6)

@@ -1,16 +1,16 @@
 -- A text as it is shown, one byte after the other; and that it is `collapse`, `trim_start_matches` and `escape`.
 use mathlib.Core.Path.{_≡_, refl, sym, ap, _∙_}
 use mathlib.Core.Bool.{Bool, true, false, _&&_, cond}
-use mathlib.Core.List.{[], _∷_, _++_, append-nil}
+use mathlib.Core.List.{[], _∷_, _++_, append-nil, append-assoc}
 use Prim.Native.Nat.{ℕ, suc, _+_, _*_, _≤_, _<_}
 use native.Mathlib.Numerals.{add-one}
 use native.Mathlib.Omega.{arith}
 use lib.ListN.{length, drop, getD, drop-of-length-le}
 use lib.Seq.{drop-cons}
-use Rattle.common.specs.Bytes.{Bytes}
-use Rattle.text.specs.Text.{isSpace, squeezed, trimStartBy, collapse, collapseBy, collapseFrom, escape, escaped}
+use Rattle.common.specs.Bytes.{Bytes, codes}
+use Rattle.text.specs.Text.{isSpace, isAsciiWhitespace, squeezed, trimStartBy, collapse, collapseBy, collapseFrom, escape, escaped, spaceAfter}
 use Rattle.text.proofs.CollapseLaws.{collapse-from-length, trim-start-collapse}
-use Rattle.text.proofs.EscapeLaws.{escape-append, escape-length}
+use Rattle.text.proofs.EscapeLaws.{escape-append, escape-length, escape-next, escape-done, escaped-cases}
 use Rattle.text.proofs.SpaceLaws.{space-32}
 use Rattle.writer.specs.Shown.{collapsedIf, escapedIf, shown, shownByte}
 
@@ -50,15 +50,67 @@ pub shown-next : {blank : Bool} (squeeze space escapes : Bool) (s : Bytes) (i : 
     → shown squeeze space escapes (drop i s) ≡ shownByte blank space escapes (getD s i 0) ++ shown squeeze blank escapes (drop (i + 1) s)
 shown-next squeeze space escapes s i h e = rw (e, add-one, drop-cons s i 0 h) (shown-cons squeeze space escapes (getD s i 0) (drop (suc i) s))
 
-pub shown-done : (squeeze space escapes : Bool) (s : Bytes) (i : ℕ) → length s ≤ i → shown squeeze space escapes (drop i s) ≡ []
+shown-nil : (squeeze space escapes : Bool) → shown squeeze space escapes [] ≡ []
 unfolding shown collapseFrom escape
-shown-done squeeze space escapes s i h = rw (drop-of-length-le s {i = i} h) (go squeeze escapes)
-  where
-    go : (squeeze escapes : Bool) → escapedIf escapes (collapsedIf squeeze space []) ≡ []
-    go true true = refl
-    go true false = refl
-    go false true = refl
-    go false false = refl
+shown-nil true space true = refl
+shown-nil true space false = refl
+shown-nil false space true = refl
+shown-nil false space false = refl
+
+pub shown-done : (squeeze space escapes : Bool) (s : Bytes) (i : ℕ) → length s ≤ i → shown squeeze space escapes (drop i s) ≡ []
+shown-done squeeze space escapes s i h = rw (drop-of-length-le s {i = i} h) (shown-nil squeeze space escapes)
+
+pub shown-one : (squeeze space escapes : Bool) (c : ℕ) → shown squeeze space escapes (c ∷ []) ≡ shownByte (squeeze && isSpace c) space escapes c
+shown-one squeeze space escapes c = shown-cons squeeze space escapes c [] ∙ rw (shown-nil squeeze (squeeze && isSpace c) escapes) (append-nil (shownByte (squeeze && isSpace c) space escapes c))
+
+-- ---- of a concatenation
+
+-- whether a blank to squeeze stands last
+abbrev pub after : Bool → Bool → Bytes → Bool
+after squeeze = spaceAfter (λ c. squeeze && isSpace c)
+
+pub shown-append : (squeeze space escapes : Bool) (s t : Bytes) → shown squeeze space escapes (s ++ t) ≡ shown squeeze space escapes s ++ shown squeeze (after squeeze space s) escapes t
+shown-append squeeze space escapes [] t = rw (shown-nil squeeze space escapes)
+shown-append squeeze space escapes (c ∷ s) t =
+    let blank = squeeze && isSpace c in
+    let first = shownByte blank space escapes c in
+    shown-cons squeeze space escapes c (s ++ t)
+    ∙ ap (λ (l : Bytes). first ++ l) (shown-append squeeze blank escapes s t)
+    ∙ sym (append-assoc first (shown squeeze blank escapes s) _)
+    ∙ ap (λ (l : Bytes). l ++ shown squeeze (after squeeze blank s) escapes t) (sym (shown-cons squeeze space escapes c s))
+
+-- ---- of an escaped text: `escape` neither makes nor takes a blank
+
+after-escaped : (squeeze space : Bool) (c : ℕ) → after squeeze space (escaped c) ≡ (squeeze && isSpace c)
+unfolding codes isSpace isAsciiWhitespace
+after-escaped true space c = escaped-cases (λ c s. after true space s ≡ isSpace c) refl refl refl refl (λ c. refl) c
+after-escaped false space c = escaped-cases (λ c s. after false space s ≡ false) refl refl refl refl (λ c. refl) c
+
+shown-escaped : (squeeze space : Bool) (c : ℕ) → shown squeeze space false (escaped c) ≡ shownByte (squeeze && isSpace c) space true c
+unfolding shown collapseFrom codes isSpace isAsciiWhitespace
+shown-escaped true space c = escaped-cases (λ c s. shown true space false s ≡ cond (isSpace c) (squeezed true space c) s) refl refl refl refl (shown-one true space false) c
+shown-escaped false space c = refl
+
+pub shown-escape : (squeeze space : Bool) (s : Bytes) → shown squeeze space false (escape s) ≡ shown squeeze space true s
+unfolding escape
+shown-escape squeeze space [] = shown-nil squeeze space false ∙ sym (shown-nil squeeze space true)
+shown-escape squeeze space (c ∷ s) =
+    let blank = squeeze && isSpace c in
+    shown-append squeeze space false (escaped c) (escape s)
+    ∙ rw (after-escaped squeeze space c, shown-escaped squeeze space c, shown-escape squeeze blank s) (sym (shown-cons squeeze space true c s))
+
+-- one byte more of a text that is escaped twice, as a loop has it
+pub twice-next : {blank : Bool} (squeeze space : Bool) (s : Bytes) (i : ℕ) → i < length s → blank ≡ (squeeze && isSpace (getD s i 0))
+    → shown squeeze space true (escape (drop i s)) ≡ shown squeeze space true (escaped (getD s i 0)) ++ shown squeeze blank true (escape (drop (i + 1) s))
+twice-next squeeze space s i h e =
+    rw (escape-next s i h, e) (shown-append squeeze space true (escaped (getD s i 0)) (escape (drop (i + 1) s)) ∙ rw (after-escaped squeeze space (getD s i 0)))
+
+-- a byte that has no entity
+pub twice-other : {blank : Bool} (squeeze space : Bool) (c : ℕ) → blank ≡ (squeeze && isSpace c) → escaped c ≡ c ∷ [] → shown squeeze space true (escaped c) ≡ shownByte blank space true c
+twice-other squeeze space c b e = ap (shown squeeze space true) e ∙ shown-one squeeze space true c ∙ ap (λ (q : Bool). shownByte q space true c) (sym b)
+
+pub twice-done : (squeeze space : Bool) (s : Bytes) (i : ℕ) → length s ≤ i → shown squeeze space true (escape (drop i s)) ≡ []
+twice-done squeeze space s i h = rw (escape-done s i h) (shown-nil squeeze space true)
 
 -- ---- with the functions of the Rust
 

@@ -5,7 +5,7 @@ ghost use mathlib.Core.Path.{_≡_};
 ghost use Prim.Native.Nat.{_+_, _≤_, _<_};
 ghost use lib.ListN.{length, replicate};
 ghost use Rattle.common.specs.Puts.{Puts};
-ghost use Rattle.text.specs.Text.{escaped, isSpace};
+ghost use Rattle.text.specs.Text.{escape, escaped, isSpace};
 ghost use Rattle.writer.specs.Digits.{digits};
 ghost use Rattle.writer.specs.Out.{greater, pushAll};
 ghost use Rattle.writer.specs.Shown.{shown, shownByte};
@@ -230,6 +230,52 @@ pub fn put_text(
         return put_shown(w, s, squeeze, space, escapes, out, write);
     }
     put(w, s, out, write)
+}
+
+// A byte of a text that is escaped twice.
+fn put_twice_byte(
+    w: Writer,
+    b: u8,
+    squeeze: bool,
+    space: bool,
+    out: &mut [u8],
+    write: bool,
+) -> Writer
+    requires { ⌜ Ready write w (now out) (pushAll (shown squeeze space true (escaped b))) ⌝ }
+    ensures { λ r. ⌜ Does write w (now (out .entry)) r (now (out .exit)) (pushAll (shown squeeze space true (escaped b))) ⌝ }
+{
+    match b {
+        38 => put_shown(w, b"&amp;", squeeze, space, true, out, write),
+        34 => put_shown(w, b"&quot;", squeeze, space, true, out, write),
+        60 => put_shown(w, b"&lt;", squeeze, space, true, out, write),
+        62 => put_shown(w, b"&gt;", squeeze, space, true, out, write),
+        _ => put_byte(w, b, is_squeezed(squeeze, b), space, true, out, write),
+    }
+}
+
+// A text that is escaped, shown as `put_text` shows it and escaped once more.
+pub fn put_twice(
+    w: Writer,
+    s: &[u8],
+    squeeze: bool,
+    space: bool,
+    out: &mut [u8],
+    write: bool,
+) -> Writer
+    requires { ⌜ Ready write w (now out) (pushAll (shown squeeze space true (escape (now s)))) ⌝ }
+    ensures { λ r. ⌜ Does write w (now (out .entry)) r (now (out .exit)) (pushAll (shown squeeze space true (escape (now (s .entry))))) ⌝ }
+{
+    let mut q = w;
+    let mut before = space;
+    let mut i = 0;
+    while i < s.len() {
+        let b = s[i];
+        let blank = is_squeezed(squeeze, b);
+        q = put_twice_byte(q, b, squeeze, before, out, write);
+        before = blank;
+        i += 1;
+    }
+    q
 }
 
 // A number in decimal.
