@@ -1,4 +1,4 @@
-// What a visit adds to the text of the open entry: written to the lent buffer, or only measured.
+// What a visit adds to the text of the open entry: shown at once, written or only measured.
 use crate::Visit;
 use crate::tests::is_bracketed;
 use crate::tests::is_break;
@@ -7,12 +7,14 @@ use crate::tests::is_link;
 use crate::tests::is_minimal_html;
 use options::ExtractOptions;
 use options::Formatting;
+use serializer::Progress;
+use serializer::texts::show;
+use serializer::texts::show_escaped;
 use sheet::line::Layout;
 use sheet::read::part;
 use sheet::read::row_at;
 use tree::attributes::AttributeAt;
 use tree::attributes::find;
-use writer::Writer;
 ghost use mathlib.Core.Bool.{_&&_, _||_, cond};
 ghost use mathlib.Core.List.{[], _++_};
 ghost use mathlib.Core.Path.{_≡_};
@@ -22,9 +24,8 @@ ghost use Rattle.options.specs.Options.{isMinimalHtml};
 ghost use Rattle.tags.specs.Tags.{isA, isButton, isImage, isInput, isTextarea};
 ghost use Rattle.text.specs.Text.{escape, trim};
 ghost use Rattle.tree.specs.Page.{nodeAt};
-ghost use Rattle.writer.specs.Out.{pushAll};
 ghost use Rattle.writer.specs.Shown.{escapedIf};
-ghost use Rattle.writer.specs.Writing.{Does, Ready};
+ghost use Rattle.serializer.specs.Progress.{ShowReady, Shows};
 ghost use Rattle.collect.specs.Visits.{Visits, fieldText, inputText};
 
 const A: u8 = 37;
@@ -43,75 +44,110 @@ fn attribute_value<'a, 'b>(s: &'a [u8], l: Layout, v: Visit, name: &'b [u8]) -> 
     }
 }
 
+// A piece of the text, escaped where asked.
+fn put(
+    o: ExtractOptions,
+    p: Progress,
+    piece: &[u8],
+    escapes: bool,
+    out: &mut [u8],
+    write: bool,
+) -> Progress
+    requires { ⌜ ShowReady (o .formatting) (o .«list_bullets») write p (now out) (escapedIf escapes (now piece)) ⌝ }
+    ensures { λ r. ⌜ Shows (o .formatting) (o .«list_bullets») write p (now (out .entry)) r (now (out .exit)) (escapedIf escapes (now (piece .entry))) ⌝ }
+{
+    let f = o.formatting;
+    if escapes {
+        return show_escaped(f, o.list_bullets, p, piece, out, write);
+    }
+    show(f, o.list_bullets, p, piece, out, write)
+}
+
 // A text between two others, escaped where asked.
 fn put_between(
-    note: Writer,
+    o: ExtractOptions,
+    p: Progress,
     before: &[u8],
     text: &[u8],
     escapes: bool,
     after: &[u8],
-    work: &mut [u8],
-    keep: bool,
-) -> Writer
-    requires { ⌜ Ready keep note (now work) (pushAll (now before ++ (escapedIf escapes (now text) ++ now after))) ⌝ }
-    ensures { λ r. ⌜ Does keep note (now (work .entry)) r (now (work .exit)) (pushAll (now (before .entry) ++ (escapedIf escapes (now (text .entry)) ++ now (after .entry)))) ⌝ }
+    out: &mut [u8],
+    write: bool,
+) -> Progress
+    requires { ⌜ ShowReady (o .formatting) (o .«list_bullets») write p (now out) (now before ++ (escapedIf escapes (now text) ++ now after)) ⌝ }
+    ensures { λ r. ⌜ Shows (o .formatting) (o .«list_bullets») write p (now (out .entry)) r (now (out .exit)) (now (before .entry) ++ (escapedIf escapes (now (text .entry)) ++ now (after .entry))) ⌝ }
 {
-    let a = writer::put(note, before, work, keep);
-    let b = writer::put_text(a, text, false, false, escapes, work, keep);
-    writer::put(b, after, work, keep)
+    let a = put(o, p, before, false, out, write);
+    let b = put(o, a, text, escapes, out, write);
+    put(o, b, after, false, out, write)
 }
 
 // A link's address, trimmed, at its end.
-fn put_address(note: Writer, href: &[u8], end: bool, work: &mut [u8], keep: bool) -> Writer
-    requires { ⌜ Ready keep note (now work) (pushAll (cond end (codes " (" ++ (now href ++ codes ")")) [])) ⌝ }
-    ensures { λ r. ⌜ Does keep note (now (work .entry)) r (now (work .exit)) (pushAll (cond end (codes " (" ++ (now (href .entry) ++ codes ")")) [])) ⌝ }
+fn put_address(
+    o: ExtractOptions,
+    p: Progress,
+    href: &[u8],
+    end: bool,
+    out: &mut [u8],
+    write: bool,
+) -> Progress
+    requires { ⌜ ShowReady (o .formatting) (o .«list_bullets») write p (now out) (cond end (codes " (" ++ (now href ++ codes ")")) []) ⌝ }
+    ensures { λ r. ⌜ Shows (o .formatting) (o .«list_bullets») write p (now (out .entry)) r (now (out .exit)) (cond end (codes " (" ++ (now (href .entry) ++ codes ")")) []) ⌝ }
 {
     if end {
-        return put_between(note, b" (", href, false, b")", work, keep);
+        return put_between(o, p, b" (", href, false, b")", out, write);
     }
-    note
+    p
 }
 
 // A link's tag.
-fn put_link_tag(note: Writer, href: &[u8], end: bool, work: &mut [u8], keep: bool) -> Writer
-    requires { ⌜ Ready keep note (now work) (pushAll (cond end (codes "</a>") (codes "<a href=\"" ++ (escape (now href) ++ codes "\">")))) ⌝ }
-    ensures { λ r. ⌜ Does keep note (now (work .entry)) r (now (work .exit)) (pushAll (cond end (codes "</a>") (codes "<a href=\"" ++ (escape (now (href .entry)) ++ codes "\">")))) ⌝ }
+fn put_link_tag(
+    o: ExtractOptions,
+    p: Progress,
+    href: &[u8],
+    end: bool,
+    out: &mut [u8],
+    write: bool,
+) -> Progress
+    requires { ⌜ ShowReady (o .formatting) (o .«list_bullets») write p (now out) (cond end (codes "</a>") (codes "<a href=\"" ++ (escape (now href) ++ codes "\">"))) ⌝ }
+    ensures { λ r. ⌜ Shows (o .formatting) (o .«list_bullets») write p (now (out .entry)) r (now (out .exit)) (cond end (codes "</a>") (codes "<a href=\"" ++ (escape (now (href .entry)) ++ codes "\">"))) ⌝ }
 {
     if end {
-        return writer::put(note, b"</a>", work, keep);
+        return put(o, p, b"</a>", false, out, write);
     }
-    put_between(note, b"<a href=\"", href, true, b"\">", work, keep)
+    put_between(o, p, b"<a href=\"", href, true, b"\">", out, write)
 }
 
 fn put_link(
-    f: Formatting,
+    o: ExtractOptions,
     s: &[u8],
     l: Layout,
     v: Visit,
-    note: Writer,
-    work: &mut [u8],
-    keep: bool,
-) -> Writer
+    p: Progress,
+    out: &mut [u8],
+    write: bool,
+) -> Progress
     requires { ⌜ Visits (now s) l v ⌝ }
-    requires { ⌜ Ready keep note (now work) (pushAll (linkText f (v .end) (attr (nodeAt (now s) l (v .row)) (codes "href")))) ⌝ }
-    ensures { λ r. ⌜ Does keep note (now (work .entry)) r (now (work .exit)) (pushAll (linkText f (v .end) (attr (nodeAt (now (s .entry)) l (v .row)) (codes "href")))) ⌝ }
+    requires { ⌜ ShowReady (o .formatting) (o .«list_bullets») write p (now out) (linkText (o .formatting) (v .end) (attr (nodeAt (now s) l (v .row)) (codes "href"))) ⌝ }
+    ensures { λ r. ⌜ Shows (o .formatting) (o .«list_bullets») write p (now (out .entry)) r (now (out .exit)) (linkText (o .formatting) (v .end) (attr (nodeAt (now (s .entry)) l (v .row)) (codes "href"))) ⌝ }
 {
     let href = text::trim(attribute_value(s, l, v, b"href"));
+    let f = o.formatting;
     match f {
-        Formatting::Off => put_address(note, href, v.end, work, keep),
-        Formatting::Basic => put_address(note, href, v.end, work, keep),
-        Formatting::MinimalHtml => put_link_tag(note, href, v.end, work, keep),
+        Formatting::Off => put_address(o, p, href, v.end, out, write),
+        Formatting::Basic => put_address(o, p, href, v.end, out, write),
+        Formatting::MinimalHtml => put_link_tag(o, p, href, v.end, out, write),
     }
 }
 
-fn put_bracket(note: Writer, end: bool, work: &mut [u8], keep: bool) -> Writer
-    requires { ⌜ Ready keep note (now work) (pushAll (cond end (codes " ] ") (codes "[ "))) ⌝ }
-    ensures { λ r. ⌜ Does keep note (now (work .entry)) r (now (work .exit)) (pushAll (cond end (codes " ] ") (codes "[ "))) ⌝ }
+fn put_bracket(o: ExtractOptions, p: Progress, end: bool, out: &mut [u8], write: bool) -> Progress
+    requires { ⌜ ShowReady (o .formatting) (o .«list_bullets») write p (now out) (cond end (codes " ] ") (codes "[ ")) ⌝ }
+    ensures { λ r. ⌜ Shows (o .formatting) (o .«list_bullets») write p (now (out .entry)) r (now (out .exit)) (cond end (codes " ] ") (codes "[ ")) ⌝ }
 {
     if end {
-        return writer::put(note, b" ] ", work, keep);
+        return put(o, p, b" ] ", false, out, write);
     }
-    writer::put(note, b"[ ", work, keep)
+    put(o, p, b"[ ", false, out, write)
 }
 
 // "the six types named in `collect`"
@@ -135,28 +171,44 @@ fn field_value(s: &[u8], l: Layout, v: Visit) -> &[u8]
     value
 }
 
-fn put_field(s: &[u8], l: Layout, v: Visit, note: Writer, work: &mut [u8], keep: bool) -> Writer
+fn put_field(
+    o: ExtractOptions,
+    s: &[u8],
+    l: Layout,
+    v: Visit,
+    p: Progress,
+    out: &mut [u8],
+    write: bool,
+) -> Progress
     requires { ⌜ Visits (now s) l v ⌝ }
-    requires { ⌜ Ready keep note (now work) (pushAll (fieldText (nodeAt (now s) l (v .row)))) ⌝ }
-    ensures { λ r. ⌜ Does keep note (now (work .entry)) r (now (work .exit)) (pushAll (fieldText (nodeAt (now (s .entry)) l (v .row)))) ⌝ }
+    requires { ⌜ ShowReady (o .formatting) (o .«list_bullets») write p (now out) (fieldText (nodeAt (now s) l (v .row))) ⌝ }
+    ensures { λ r. ⌜ Shows (o .formatting) (o .«list_bullets») write p (now (out .entry)) r (now (out .exit)) (fieldText (nodeAt (now (s .entry)) l (v .row))) ⌝ }
 {
     let value = text::trim(field_value(s, l, v));
     if value.len() == 0 {
-        return note;
+        return p;
     }
-    put_between(note, b"[ ", value, false, b" ] ", work, keep)
+    put_between(o, p, b"[ ", value, false, b" ] ", out, write)
 }
 
 // An input, unless it is of a type that is not shown.
-fn put_input(s: &[u8], l: Layout, v: Visit, note: Writer, work: &mut [u8], keep: bool) -> Writer
+fn put_input(
+    o: ExtractOptions,
+    s: &[u8],
+    l: Layout,
+    v: Visit,
+    p: Progress,
+    out: &mut [u8],
+    write: bool,
+) -> Progress
     requires { ⌜ Visits (now s) l v ⌝ }
-    requires { ⌜ Ready keep note (now work) (pushAll (inputText (nodeAt (now s) l (v .row)))) ⌝ }
-    ensures { λ r. ⌜ Does keep note (now (work .entry)) r (now (work .exit)) (pushAll (inputText (nodeAt (now (s .entry)) l (v .row)))) ⌝ }
+    requires { ⌜ ShowReady (o .formatting) (o .«list_bullets») write p (now out) (inputText (nodeAt (now s) l (v .row))) ⌝ }
+    ensures { λ r. ⌜ Shows (o .formatting) (o .«list_bullets») write p (now (out .entry)) r (now (out .exit)) (inputText (nodeAt (now (s .entry)) l (v .row))) ⌝ }
 {
     if is_unshown(s, l, v) {
-        return note;
+        return p;
     }
-    put_field(s, l, v, note, work, keep)
+    put_field(o, s, l, v, p, out, write)
 }
 
 fn shows_alt(o: ExtractOptions, tag: u8) -> bool
@@ -183,31 +235,30 @@ fn add_element(
     s: &[u8],
     l: Layout,
     v: Visit,
-    note: Writer,
-    work: &mut [u8],
-    keep: bool,
-) -> Writer
+    p: Progress,
+    out: &mut [u8],
+    write: bool,
+) -> Progress
     requires { ⌜ Visits (now s) l v ⌝ }
-    requires { ⌜ Ready keep note (now work) (pushAll (addedByElement o (nodeAt (now s) l (v .row)) (v .end))) ⌝ }
-    ensures { λ r. ⌜ Does keep note (now (work .entry)) r (now (work .exit)) (pushAll (addedByElement o (nodeAt (now (s .entry)) l (v .row)) (v .end))) ⌝ }
+    requires { ⌜ ShowReady (o .formatting) (o .«list_bullets») write p (now out) (addedByElement o (nodeAt (now s) l (v .row)) (v .end)) ⌝ }
+    ensures { λ r. ⌜ Shows (o .formatting) (o .«list_bullets») write p (now (out .entry)) r (now (out .exit)) (addedByElement o (nodeAt (now (s .entry)) l (v .row)) (v .end)) ⌝ }
 {
     if is_break(o, v.tag) {
-        return note;
+        return p;
     }
     if is_link(o, v.tag) {
-        let f = o.formatting;
-        return put_link(f, s, l, v, note, work, keep);
+        return put_link(o, s, l, v, p, out, write);
     }
     if shows_alt(o, v.tag) {
-        return writer::put(note, attribute_value(s, l, v, b"alt"), work, keep);
+        return put(o, p, attribute_value(s, l, v, b"alt"), false, out, write);
     }
     if shows_brackets(o, v.tag) {
-        return put_bracket(note, v.end, work, keep);
+        return put_bracket(o, p, v.end, out, write);
     }
     if shows_input(o, v.tag) {
-        return put_input(s, l, v, note, work, keep);
+        return put_input(o, s, l, v, p, out, write);
     }
-    note
+    p
 }
 
 fn is_escaped(f: Formatting, current: u8) -> bool
@@ -224,25 +275,24 @@ pub fn add(
     l: Layout,
     v: Visit,
     current: u8,
-    note: Writer,
-    work: &mut [u8],
-    keep: bool,
-) -> Writer
+    p: Progress,
+    out: &mut [u8],
+    write: bool,
+) -> Progress
     requires { ⌜ Visits (now s) l v ⌝ }
-    requires { ⌜ Ready keep note (now work) (pushAll (added o (nodeAt (now s) l (v .row)) (v .end) current)) ⌝ }
-    ensures { λ r. ⌜ Does keep note (now (work .entry)) r (now (work .exit)) (pushAll (added o (nodeAt (now (s .entry)) l (v .row)) (v .end) current)) ⌝ }
+    requires { ⌜ ShowReady (o .formatting) (o .«list_bullets») write p (now out) (added o (nodeAt (now s) l (v .row)) (v .end) current) ⌝ }
+    ensures { λ r. ⌜ Shows (o .formatting) (o .«list_bullets») write p (now (out .entry)) r (now (out .exit)) (added o (nodeAt (now (s .entry)) l (v .row)) (v .end) current) ⌝ }
 {
     if v.tag == 0 {
         let f = o.formatting;
-        return writer::put_text(
-            note,
+        return put(
+            o,
+            p,
             part(s, l, v.value_at, v.value_len),
-            false,
-            false,
             is_escaped(f, current),
-            work,
-            keep,
+            out,
+            write,
         );
     }
-    add_element(o, s, l, v, note, work, keep)
+    add_element(o, s, l, v, p, out, write)
 }

@@ -2,24 +2,27 @@
 use mathlib.Core.Path.{_≡_, refl, sym, ap, _∙_}
 use mathlib.Core.Bool.{Bool, true, false, _&&_, _||_, not}
 use mathlib.Core.List.{List, [], _∷_, _++_}
-use Prim.Native.Nat.{ℕ, _+_, _-_, _≤_}
+use Prim.Native.Nat.{ℕ, _+_, _-_, _≤_, _<_}
 use native.Mathlib.Omega.{arith}
 use lib.ListN.{length, getD, length-append}
-use Rattle.common.specs.Bytes.{Bytes}
+use Rattle.common.specs.Answer.{capped}
+use Rattle.common.specs.Bytes.{Bytes, codes, isEmpty}
 use Rattle.options.specs.Options.{isOff, isBasic}
 use Rattle.options.specs.declared.Formatting.{Formatting}
-use Rattle.text.specs.Text.{isSpace, spaceAfter}
+use Rattle.text.specs.Text.{isSpace, spaceAfter, escape, escaped}
+use Rattle.text.proofs.CollapseLaws.{space-append}
+use Rattle.text.proofs.EscapeLaws.{escaped-cases}
 use Rattle.writer.proofs.OutLaws.{greater-max}
-use Rattle.html2text.specs.Serialize.{State, margin, lead, withUncollapsed}
+use Rattle.html2text.specs.Serialize.{State, margin, lead, shortened, withUncollapsed}
 use Rattle.html2text.specs.Showing.{showsAny, isSilent, showingAfter, leadIn, showPiece}
 use Rattle.html2text.specs.declared.Showing.{Showing}
 use Rattle.html2text.proofs.ShowingLaws as pieces
 use Rattle.html2text.proofs.ShowingLaws.{piece-silent, piece-shows, shown-in-pieces}
 use Rattle.serializer.specs.Progress.{showingThen, ShowReady, Shows}
-use Rattle.serializer.specs.Serializing.{AbleOut, WorksOut}
+use Rattle.serializer.specs.Serializing.{AbleOut, WorksOut, allBlank}
 use Rattle.serializer.specs.declared.Progress.{Progress}
 use Rattle.serializer.specs.declared.Serializer.{Serializer}
-use Rattle.serializer.proofs.TextLaws.{showText, rises-lead, rises-clear}
+use Rattle.serializer.proofs.TextLaws.{showText, rises-lead, rises-clear, empty-trimmed, empty-collapsed}
 use Rattle.serializer.proofs.WorksLaws.{Rises, rises-then, out-none, out-first, out-able, out-then, out-able-as, out-as}
 
 -- ---- before the first piece that shows anything
@@ -86,6 +89,49 @@ space-none space (c ∷ s) h = absurd (omega arith)
 pub showing-then : (w : Showing) (piece : Bytes) → showingThen w (showsAny w piece) (spaceAfter isSpace (w .space) piece) ≡ showingAfter w piece
 unfolding showingAfter
 showing-then w piece = refl
+
+-- ---- a piece that is escaped: no blank comes or goes
+
+space-of : (space : Bool) (c : ℕ) → spaceAfter isSpace space (escaped c) ≡ isSpace c
+unfolding codes isSpace
+space-of space c = escaped-cases (λ c s. spaceAfter isSpace space s ≡ isSpace c) refl refl refl refl (λ c. refl) c
+
+pub space-escape : (space : Bool) (s : Bytes) → spaceAfter isSpace space (escape s) ≡ spaceAfter isSpace space s
+unfolding escape
+space-escape space [] = refl
+space-escape space (c ∷ s) = space-append isSpace space (escaped c) (escape s) ∙ ap (λ (b : Bool). spaceAfter isSpace b (escape s)) (space-of space c) ∙ space-escape (isSpace c) s
+
+blank-of : (c : ℕ) (s : Bytes) → allBlank (escaped c ++ s) ≡ (isSpace c && allBlank s)
+unfolding codes isSpace
+blank-of c s = escaped-cases (λ c t. allBlank (t ++ s) ≡ (isSpace c && allBlank s)) refl refl refl refl (λ c. refl) c
+
+blank-escape : (s : Bytes) → allBlank (escape s) ≡ allBlank s
+unfolding escape
+blank-escape [] = refl
+blank-escape (c ∷ s) = blank-of c (escape s) ∙ ap (λ (b : Bool). isSpace c && b) (blank-escape s)
+
+empty-of : (c : ℕ) (s : Bytes) → isEmpty (escaped c ++ s) ≡ false
+unfolding codes
+empty-of c s = escaped-cases (λ c t. isEmpty (t ++ s) ≡ false) refl refl refl refl (λ c. refl) c
+
+empty-escape : (s : Bytes) → isEmpty (escape s) ≡ isEmpty s
+unfolding escape
+empty-escape [] = refl
+empty-escape (c ∷ s) = empty-of c (escape s)
+
+left-escape : (squeeze trim : Bool) (s : Bytes) → isEmpty (shortened squeeze trim (escape s)) ≡ isEmpty (shortened squeeze trim s)
+left-escape true true s = empty-trimmed (escape s) ∙ blank-escape s ∙ sym (empty-trimmed s)
+left-escape true false s = empty-collapsed (escape s) ∙ empty-escape s ∙ sym (empty-collapsed s)
+left-escape false trim s = empty-escape s
+
+pub any-escape : (w : Showing) (s : Bytes) → showsAny w s ≡ showsAny w (escape s)
+any-escape w s = ap not (sym (left-escape (w .squeeze) (w .space) s))
+
+pub showing-escaped : (w : Showing) (piece : Bytes) → showingThen w (showsAny w piece) (spaceAfter isSpace (w .space) piece) ≡ showingAfter w (escape piece)
+showing-escaped w piece = rw (any-escape w piece, ← space-escape (w .space) piece) (showing-then w (escape piece))
+
+pub uncapped : {len : ℕ} (before : ℕ) (s : Bytes) → len ≡ capped (length s) → before + length s < 4611686018427387904 → len ≡ length s
+uncapped before s e h = omega (arith, e, h)
 
 -- ---- one piece after another
 

@@ -1,26 +1,30 @@
 -- A step: rows and cells first, then what the formatting asks for.
-use mathlib.Core.Path.{_≡_, refl, sym, _∙_}
-use mathlib.Core.Bool.{Bool, true, false, _&&_}
+use mathlib.Core.Path.{_≡_, refl, sym, ap, _∙_}
+use mathlib.Core.Bool.{Bool, true, false, _&&_, not, and-false}
 use mathlib.Core.List.{List, []}
-use Prim.Native.Nat.{ℕ, _-_, _≤_, _<_}
+use Prim.Native.Nat.{ℕ, _+_, _-_, _≤_, _<_}
 use native.Mathlib.Omega.{arith}
-use lib.Dec.{eqb}
+use lib.Dec.{eqb, ltb}
 use lib.ListN.{length, getD}
+use borrow.Author.Tests.{not-true}
 use Rattle.common.specs.Bytes.{Bytes}
-use Rattle.common.proofs.Choice.{by-cond}
+use Rattle.common.proofs.Choice.{by-cond, and-parts}
 use Rattle.options.specs.Options.{isOff}
 use Rattle.options.specs.declared.Formatting.{Formatting}
 use Rattle.options.specs.declared.Formatting.the-variants.{Off, Basic, MinimalHtml}
-use Rattle.tags.specs.Tags.{isTr, isCell}
-use Rattle.html2text.specs.Serialize.{State, margin, rows, besideCell, inRow, cell, item, blockMargin, htmlMarks, putText, finishHtml, afterOff, afterBasic, afterHtml, stepBy, after, step, collapses}
+use Rattle.tags.specs.Tags.{isTr, isCell, isLi, isPre, isBr}
+use Rattle.html2text.specs.Serialize.{State, margin, rows, besideCell, inRow, cell, changesLevel, countUncollapsed, level, item, blockMargin, htmlItem, htmlPre, htmlBr, htmlMarks, opensTag, wantsTag, blockAfterMarks, blockAfterTag, putText, finishHtml, afterOff, afterBasic, afterHtml, stepBy, after, step, collapses}
+use Rattle.html2text.specs.Showing.{blockShown, droppedShowing, showingOf}
 use Rattle.html2text.specs.declared.ExtractNode.{ExtractNode}
-use Rattle.serializer.specs.Serializing.{Lent, lent, Stands, Able, Works, AbleCells, WorksCells, WorksRows, Limits, ListLimits, Numbers, levels}
+use Rattle.html2text.specs.declared.Showing.{Showing}
+use Rattle.serializer.specs.Progress.{Begins, blockBefore, showingBehind}
+use Rattle.serializer.specs.Serializing.{Lent, lent, Stands, Able, Works, AbleCells, AbleListed, WorksCells, WorksRows, Limits, ListLimits, Numbers, levels}
 use Rattle.serializer.specs.declared.Serializer.{Serializer}
 use Rattle.serializer.proofs.HtmlLaws.{margins-marks, rises-html-marks, rises-finish, rises-rest}
 use Rattle.serializer.proofs.LevelLaws.{margins-levels, margins-item, rises-levels, rises-item}
 use Rattle.serializer.proofs.RowLaws.{rises-rows, rises-cell}
 use Rattle.serializer.proofs.StandsLaws.{depth-long}
-use Rattle.serializer.proofs.TextLaws.{put-text-nothing}
+use Rattle.serializer.proofs.TextLaws.{put-text-nothing, trims-is}
 use Rattle.serializer.proofs.WorksLaws.{Rises, rises-then, rises-cond, works-then, works-by, able-first, able-by, able-then}
 
 -- ---- the three formattings, as their parts
@@ -118,45 +122,109 @@ kept-cell off n S =
 pub kept-before : (off : Bool) (n : ExtractNode) (S : State) → Kept S (cell off n (rows n S))
 kept-before off n S = kept-then (kept-rows n S) (kept-cell off n (rows n S))
 
--- ---- behind rows and cells
+-- ---- `n.block` where the text is put, of the state behind rows and cells
 
-module _ {write : Bool} {s a : Serializer} {nums : List ℕ} {cells cells₁ : List Bool} {out : Bytes} (f : Formatting) (bullets : Bool) (n : ExtractNode) (text : Bytes)
-    (r : Able write s (lent nums cells out) (step f bullets n text)) (goes : (isCell (n .tag) && n .end) ≡ false) (dr : WorksRows s cells a cells₁ (rows n)) {off : Bool} (e : off ≡ isOff f) where
-  behind-rows : Able write a (lent nums cells₁ out) (λ S. after f bullets n text (cell (isOff f) n S))
-  behind-rows = able-then (dr .at write nums out) (able-by r (λ under S h. step-goes (isOff f) (after f bullets n text) n goes S))
+-- S has as many uncollapsed line ends as T
+abbrev Same : State → State → Type 0
+Same T S = S .uncollapsed ≡ T .uncollapsed
 
-  pub cell-able : AbleCells write a cells₁ out (cell off n)
-  cell-able = rw e record { numbering = nums; able = able-first (rises-after f bullets n text) behind-rows }
+uncollapsed-level : (n : ExtractNode) (S : State) → Same S (level n S)
+unfolding level
+uncollapsed-level n S = by-cond (Same S) (changesLevel (n .tag) (S .depth)) (λ e. by-cond (Same S) (n .end) (λ f. refl) (λ f. refl)) (λ e. refl)
 
-  module _ {b : Serializer} {cells₂ : List Bool} {out₁ : Bytes} (dc : WorksCells write a cells₁ out b cells₂ out₁ (cell off n)) where
-    cell-works : Works write a (lent nums cells₁ out) b (lent nums cells₂ out₁) (cell (isOff f) n)
-    cell-works = rw e at (dc .at nums)
+uncollapsed-item : (bullets : Bool) (n : ExtractNode) (S : State) → Same S (htmlItem bullets n S)
+unfolding htmlItem margin
+uncollapsed-item bullets n S = by-cond (Same S) (bullets && isLi (n .tag)) (λ e. refl) (λ e. refl)
 
-    before-works : Works write s (lent nums cells out) b (lent nums cells₂ out₁) (λ S. cell (isOff f) n (rows n S))
-    before-works = works-then (dr .at write nums out) cell-works
+uncollapsed-pre : (n : ExtractNode) (S : State) → Same S (htmlPre n S)
+unfolding htmlPre margin
+uncollapsed-pre n S = by-cond (Same S) (isPre (n .tag)) (λ e. by-cond (Same S) (n .end) (λ f. refl) (λ f. refl)) (λ e. refl)
 
-    pub after-able : Able write b (lent nums cells₂ out₁) (after f bullets n text)
-    after-able = able-then cell-works behind-rows
+uncollapsed-br : (n : ExtractNode) (S : State) → Same S (htmlBr n S)
+unfolding htmlBr
+uncollapsed-br n S = by-cond (Same S) (isBr (n .tag)) (λ e. refl) (λ e. refl)
 
-    pub after-works : {s′ : Serializer} {l : Lent} → Works write b (lent nums cells₂ out₁) s′ l (after f bullets n text) → Works write s (lent nums cells out) s′ l (step f bullets n text)
-    after-works d = works-by (works-then before-works d) (λ under S h. sym (step-goes (isOff f) (after f bullets n text) n goes S))
+uncollapsed-marks : (bullets : Bool) (n : ExtractNode) (S : State) → Same S (htmlMarks bullets n S)
+unfolding htmlMarks
+uncollapsed-marks bullets n S = uncollapsed-br n (htmlPre n (htmlItem bullets n S)) ∙ uncollapsed-pre n (htmlItem bullets n S) ∙ uncollapsed-item bullets n S
 
-    -- the numbers there
-    stands : Stands write (r .under) b (lent nums cells₂ out₁) (cell (isOff f) n (rows n (r .state)))
-    stands = before-works .run (r .under) (r .state) (r .stands)
+opens-same : (n : ExtractNode) (a b : ℕ) → n .«collapse_margins» ≡ false → opensTag n a ≡ opensTag n b
+opens-same n a b e = rw (e, and-false (ltb 0 a), and-false (ltb 0 b))
 
-    same-depth : b .depth ≡ s .depth
-    same-depth = stands .depth ∙ kept-before (isOff f) n (r .state) .depth ∙ sym (r .stands .depth)
+-- an entry's own line end is counted only where a tag does not look at the count
+counted-same : (bullets : Bool) (n : ExtractNode) (S : State) → blockAfterTag bullets n (countUncollapsed n S .uncollapsed) ≡ blockAfterTag bullets n (S .uncollapsed)
+unfolding countUncollapsed
+counted-same bullets n S =
+    by-cond (λ (T : State). blockAfterTag bullets n (T .uncollapsed) ≡ blockAfterTag bullets n (S .uncollapsed)) (n .block && not (n .«collapse_margins»))
+    (λ e. ap (λ (o : Bool). not (wantsTag bullets n && o) && blockAfterMarks bullets n) (opens-same n (S .uncollapsed + 1) (S .uncollapsed) (not-true (n .«collapse_margins») (and-parts (n .block) (not (n .«collapse_margins»)) e .1))))
+    (λ e. refl)
 
-    module _ (l : Limits f s nums cells n) where
-      pub margins-small : b .margins < 4611686018427387904
-      margins-small = omega (arith, l .margins, stands .margins, kept-before (isOff f) n (r .state) .margins, r .stands .margins)
+block-shown : (f : Formatting) (bullets : Bool) (n : ExtractNode) (S : State) → blockShown f bullets n S ≡ blockBefore f bullets n (S .uncollapsed)
+block-shown Off bullets n S = refl
+block-shown Basic bullets n S = refl
+block-shown MinimalHtml bullets n S =
+    ap (blockAfterTag bullets n) (uncollapsed-marks bullets n (level n (countUncollapsed n S)) ∙ uncollapsed-level n (countUncollapsed n S)) ∙ counted-same bullets n S
 
-      uncollapsed-small : b .uncollapsed < 4611686018427387904
-      uncollapsed-small = omega (arith, l .uncollapsed, stands .uncollapsed, kept-before (isOff f) n (r .state) .uncollapsed, r .stands .uncollapsed)
+-- ---- an entry without its text: dropped, or behind rows and cells
 
-      pub list-limits : isOff f ≡ false → ListLimits b nums n
-      list-limits on = record { margins = margins-small; uncollapsed = uncollapsed-small; level = rw same-depth (l .level on) }
+module _ {write : Bool} {s a : Serializer} {nums : List ℕ} {cells cells₁ : List Bool} {out : Bytes} (f : Formatting) (bullets : Bool) (n : ExtractNode) (dr : WorksRows s cells a cells₁ (rows n)) where
+  pub begins-dropped : (isCell (n .tag) && n .end) ≡ true → {w : Showing} → w ≡ droppedShowing → Begins f bullets n write s (lent nums cells out) (record { serializer = a; showing = w }) (lent nums cells₁ out)
+  unfolding showingOf
+  begins-dropped e q =
+      record { works = works-by (dr .at write nums out) (λ under S h. sym (step-drops (isOff f) (after f bullets n []) n e S)); showing = λ under S h. q ∙ sym (rw e) }
 
-      pub numbers : Numbers b nums
-      numbers = record { within = omega (arith, same-depth, depth-long r); small = λ i h. l .numbers i (omega (arith, same-depth)) }
+  module _ (r : Able write s (lent nums cells out) (step f bullets n [])) (goes : (isCell (n .tag) && n .end) ≡ false) {off : Bool} (e : off ≡ isOff f) where
+    behind-rows : Able write a (lent nums cells₁ out) (λ S. after f bullets n [] (cell (isOff f) n S))
+    behind-rows = able-then (dr .at write nums out) (able-by r (λ under S h. step-goes (isOff f) (after f bullets n []) n goes S))
+
+    pub cell-able : AbleCells write a cells₁ out (cell off n)
+    cell-able = rw e record { numbering = nums; able = able-first (rises-after f bullets n []) behind-rows }
+
+    module _ {b : Serializer} {cells₂ : List Bool} {out₁ : Bytes} (dc : WorksCells write a cells₁ out b cells₂ out₁ (cell off n)) where
+      cell-works : Works write a (lent nums cells₁ out) b (lent nums cells₂ out₁) (cell (isOff f) n)
+      cell-works = rw e at (dc .at nums)
+
+      before-works : Works write s (lent nums cells out) b (lent nums cells₂ out₁) (λ S. cell (isOff f) n (rows n S))
+      before-works = works-then (dr .at write nums out) cell-works
+
+      pub after-able : AbleListed write b nums out₁ (after f bullets n [])
+      after-able = record { cells = cells₂; able = able-then cell-works behind-rows }
+
+      -- the numbers there
+      stands : Stands write (r .under) b (lent nums cells₂ out₁) (cell (isOff f) n (rows n (r .state)))
+      stands = before-works .run (r .under) (r .state) (r .stands)
+
+      same-depth : b .depth ≡ s .depth
+      same-depth = stands .depth ∙ kept-before (isOff f) n (r .state) .depth ∙ sym (r .stands .depth)
+
+      module _ (l : Limits f s nums cells n) where
+        margins-small : b .margins < 4611686018427387904
+        margins-small = omega (arith, l .margins, stands .margins, kept-before (isOff f) n (r .state) .margins, r .stands .margins)
+
+        uncollapsed-small : b .uncollapsed < 4611686018427387904
+        uncollapsed-small = omega (arith, l .uncollapsed, stands .uncollapsed, kept-before (isOff f) n (r .state) .uncollapsed, r .stands .uncollapsed)
+
+        list-limits : isOff f ≡ false → ListLimits b nums n
+        list-limits on = record { margins = margins-small; uncollapsed = uncollapsed-small; level = rw same-depth (l .level on) }
+
+        numbers : Numbers b nums
+        numbers = record { within = omega (arith, same-depth, depth-long r); small = λ i h. l .numbers i (omega (arith, same-depth)) }
+
+        pub after-limits : (b .margins < 4611686018427387904) × (isOff f ≡ false → ListLimits b nums n) × Numbers b nums
+        after-limits = (margins-small, list-limits, numbers)
+
+      block-is : (under : Bytes) (S : State) → Stands write under s (lent nums cells out) S → blockBefore f bullets n (b .uncollapsed) ≡ blockShown f bullets n (cell (isOff f) n (rows n S))
+      block-is under S h = ap (blockBefore f bullets n) (before-works .run under S h .uncollapsed) ∙ sym (block-shown f bullets n (cell (isOff f) n (rows n S)))
+
+      module _ {s′ : Serializer} {l : Lent} (d : Works write b (lent nums cells₂ out₁) s′ l (after f bullets n [])) where
+        after-works : Works write s (lent nums cells out) s′ l (step f bullets n [])
+        after-works = works-by (works-then before-works d) (λ under S h. sym (step-goes (isOff f) (after f bullets n []) n goes S))
+
+        pub begins : {block : Bool} → block ≡ blockBefore f bullets n (b .uncollapsed) → {off₂ : Bool} → off₂ ≡ isOff f → {w : Showing} → w ≡ showingBehind off₂ n block (s′ .writer)
+            → Begins f bullets n write s (lent nums cells out) (record { serializer = s′; showing = w }) l
+        unfolding showingOf
+        begins p o q =
+            record {
+              works = after-works;
+              showing = λ under S h. q ∙ rw (goes, o, trims-is (blockShown f bullets n (cell (isOff f) n (rows n S))) (after-works .run under S h), p, block-is under S h);
+            }

@@ -73,7 +73,7 @@ empty-length (c ∷ s) = lt-ltb 0 (suc (length s)) (omega arith)
 
 -- ---- where the leading blanks go
 
-trims-is : {write : Bool} {under : Bytes} {s : Serializer} {a : Lent} {S : State} (block : Bool) → Stands write under s a S → trims block S ≡ (block || ltb (s .writer .kept) (s .writer .len))
+pub trims-is : {write : Bool} {under : Bytes} {s : Serializer} {a : Lent} {S : State} (block : Bool) → Stands write under s a S → trims block S ≡ (block || ltb (s .writer .kept) (s .writer .len))
 trims-is {S = S} block h = rw (h .held .len, h .held .kept, ends-blank (S .out .text))
 
 -- ---- indentation

@@ -108,7 +108,7 @@ fn block_before(f: Formatting, bullets: bool, n: ExtractNode, uncollapsed: usize
     }
 }
 
-fn dropped_showing() -> Showing
+pub fn dropped_showing() -> Showing
     ensures { λ r. ⌜ r ≡ droppedShowing ⌝ }
 {
     Showing {

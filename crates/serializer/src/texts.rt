@@ -16,8 +16,9 @@ ghost use Rattle.common.specs.Bytes.{isEmpty};
 ghost use Rattle.html2text.specs.Serialize.{indentText, lead, one, shortened};
 ghost use Rattle.html2text.specs.Showing.{leadIn, showPiece, showsAny};
 ghost use Rattle.options.specs.Options.{isBasic};
-ghost use Rattle.text.specs.Text.{isSpace, spaceAfter};
+ghost use Rattle.text.specs.Text.{escape, isSpace, spaceAfter};
 ghost use Rattle.writer.specs.Out.{pushAll};
+ghost use Rattle.writer.specs.Shown.{shown};
 ghost use Rattle.writer.specs.Writing.{Does, Ready};
 ghost use Rattle.serializer.specs.Progress.{ShowReady, Shows, showingBehind, showingThen};
 ghost use Rattle.serializer.specs.Serializing.{AbleOut, WorksOut, allBlank, prefixText};
@@ -244,6 +245,67 @@ pub fn show(
     let serializer = show_piece(f, bullets, p.serializer, w, any, piece, out, write);
     let showing = showing_after(w, any, space_after(w.space, piece));
     let len = p.len + piece.len();
+    let need = writer::greater(p.need, len);
+    Progress {
+        serializer,
+        len,
+        need,
+        showing,
+    }
+}
+
+// A piece that is escaped on its own, and again where its entry is.
+fn put_escaped(w: Writer, piece: &[u8], how: Showing, out: &mut [u8], write: bool) -> Writer
+    requires { ⌜ Ready write w (now out) (pushAll (shown (how .squeeze) (how .space) (how .escapes) (escape (now piece)))) ⌝ }
+    ensures { λ r. ⌜ Does write w (now (out .entry)) r (now (out .exit)) (pushAll (shown (how .squeeze) (how .space) (how .escapes) (escape (now (piece .entry))))) ⌝ }
+{
+    if how.escapes {
+        return writer::put_twice(w, piece, how.squeeze, how.space, out, write);
+    }
+    writer::put_text(w, piece, how.squeeze, how.space, true, out, write)
+}
+
+fn show_escaped_piece(
+    f: Formatting,
+    bullets: bool,
+    s: Serializer,
+    w: Showing,
+    any: bool,
+    piece: &[u8],
+    out: &mut [u8],
+    write: bool,
+) -> Serializer
+    requires { ⌜ any ≡ showsAny w (escape (now piece)) ⌝ }
+    requires { ⌜ AbleOut write s (now out) (showPiece f bullets w (escape (now piece))) ⌝ }
+    ensures { λ r. ⌜ WorksOut write s (now (out .entry)) r (now (out .exit)) (showPiece f bullets w (escape (now (piece .entry)))) ⌝ }
+{
+    if is_silent(w, any) {
+        return s;
+    }
+    let a = lead_in(f, bullets, s, w, out, write);
+    let q = put_escaped(a.writer, piece, w, out, write);
+    let mut r = a;
+    r.writer = q;
+    r
+}
+
+// A piece more of the open entry's text, which `collect` escapes.
+pub fn show_escaped(
+    f: Formatting,
+    bullets: bool,
+    p: Progress,
+    piece: &[u8],
+    out: &mut [u8],
+    write: bool,
+) -> Progress
+    requires { ⌜ ShowReady f bullets write p (now out) (escape (now piece)) ⌝ }
+    ensures { λ r. ⌜ Shows f bullets write p (now (out .entry)) r (now (out .exit)) (escape (now (piece .entry))) ⌝ }
+{
+    let w = p.showing;
+    let any = shows(piece, w.squeeze, w.space);
+    let serializer = show_escaped_piece(f, bullets, p.serializer, w, any, piece, out, write);
+    let showing = showing_after(w, any, space_after(w.space, piece));
+    let len = p.len + text::escaped_len(piece);
     let need = writer::greater(p.need, len);
     Progress {
         serializer,

@@ -173,7 +173,7 @@ fn add_capped(n: usize, k: usize) -> usize
     18446744073709551615
 }
 
-fn escaped_len(s: &[u8]) -> usize
+pub fn escaped_len(s: &[u8]) -> usize
     ensures { λ r. ⌜ r ≡ capped (length (escape (now (s .entry)))) ⌝ }
 {
     let mut n = 0;

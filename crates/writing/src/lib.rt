@@ -1,12 +1,16 @@
-// The second and the third pass over the rows: `collect` and `serialize` as one, the text written or only measured.
-use collect::OpenEntry;
+// A pass over the rows: `collect` and `serialize` as one, each piece of text shown as it is met, written or only measured.
 use collect::Visit;
-use collect::entry::begin;
-use collect::entry::grow;
+use collect::added::add;
+use collect::entry::node_of;
 use collect::entry::opens;
 use options::ExtractOptions;
+use options::Formatting;
+use serializer::Progress;
 use serializer::Serializer;
-use serializer::step::step;
+use serializer::changes_level;
+use serializer::step::begin;
+use serializer::step::dropped_showing;
+use serializer::step::is_off;
 use sheet::line::Layout;
 use visits::Seen;
 use visits::see;
@@ -15,57 +19,128 @@ use writer::Writer;
 ghost use mathlib.Core.Path.{_≡_};
 ghost use Prim.Native.Nat.{_<_};
 ghost use lib.ListN.{length};
-ghost use Rattle.collect.specs.Entries.{opensOn};
 ghost use Rattle.collect.specs.Visits.{Visits, eventOf};
-ghost use Rattle.html2text.specs.Extract.{going};
-ghost use Rattle.html2text.specs.Fused.{closed, fed};
-ghost use Rattle.html2text.specs.Serialize.{State};
+ghost use Rattle.html2text.specs.Fused.{fed};
 ghost use Rattle.serializer.specs.Serializing.{lent};
-ghost use Rattle.visits.specs.Visiting.{Noted, Walked, runOf};
-ghost use Rattle.writer.specs.Writing.{Held};
-ghost use Rattle.writing.specs.Passing.{PassDoes, PassReady, TakeReady, Takes, WriteReady};
+ghost use Rattle.visits.specs.Visiting.{Noted, Walked};
+ghost use Rattle.writing.specs.Passing.{AddReady, Adds, OpenReady, Opens, PassDoes, PassReady, PassesAll, WriteReady, depthPassesAt, noPass, rowsPassAt};
 
-// Along a pass: the open entry, and `serialize`'s state after the entries before it.
+const TR: u8 = 1;
+
+// The most list levels, and the most open rows.
+const MOST: usize = 1024;
+
+// Along a pass: the open entry's progress, and of its node what later visits look at. any: whether one is open.
 pub struct Pass {
-    pub entry: OpenEntry,
-    pub serializer: Serializer,
+    pub progress: Progress,
+    pub depth: usize,
+    pub pre_depth: usize,
+    pub tag: u8,
+    pub any: bool,
 }
 
-// The open entry goes to `serialize`.
-fn take_entry(
+// Of a whole pass: the longest text of an entry, the visits and the text's lengths; or the line of the first entry that would pass a limit.
+pub enum Passed {
+    Text {
+        need: usize,
+        visits: usize,
+        writer: Writer,
+    },
+    TooManyLevels(usize),
+    TooManyRows(usize),
+}
+
+// Before the first visit.
+fn start() -> Pass
+    ensures { λ r. ⌜ r ≡ noPass ⌝ }
+{
+    let serializer = Serializer::new();
+    let showing = dropped_showing();
+    let progress = Progress {
+        serializer,
+        len: 0,
+        need: 0,
+        showing,
+    };
+    Pass {
+        progress,
+        depth: 0,
+        pre_depth: 0,
+        tag: 0,
+        any: false,
+    }
+}
+
+// "21: list depth would pass 1,024. Formatting Off never counts it."
+fn passes_levels(f: Formatting, v: Visit, depth: usize) -> bool
+    ensures { λ r. ⌜ r ≡ depthPassesAt f v depth ⌝ }
+{
+    if is_off(f) {
+        return false;
+    }
+    if v.end {
+        return false;
+    }
+    changes_level(v.tag, depth) && MOST <= depth
+}
+
+// "22: open table rows would pass 1,024."
+fn passes_rows(v: Visit, rows: usize) -> bool
+    ensures { λ r. ⌜ r ≡ rowsPassAt v rows ⌝ }
+{
+    if v.end {
+        return false;
+    }
+    v.tag == TR && MOST <= rows
+}
+
+// The entry that a visit opens, if it opens one.
+fn open(
     o: ExtractOptions,
+    v: Visit,
     p: Pass,
     numbering: &mut [usize],
     cells: &mut [bool],
-    work: &[u8],
     out: &mut [u8],
     write: bool,
-) -> Serializer
-    requires { ⌜ TakeReady o write p (now work) (lent (now numbering) (now cells) (now out)) ⌝ }
-    ensures { λ r. ⌜ Takes o write p (now (work .entry)) (lent (now (numbering .entry)) (now (cells .entry)) (now (out .entry))) r (lent (now (numbering .exit)) (now (cells .exit)) (now (out .exit))) ⌝ }
+) -> Pass
+    requires { ⌜ OpenReady o write v p (lent (now numbering) (now cells) (now out)) ⌝ }
+    ensures { λ r. ⌜ Opens o write v p (lent (now (numbering .entry)) (now (cells .entry)) (now (out .entry))) r (lent (now (numbering .exit)) (now (cells .exit)) (now (out .exit))) ⌝ }
 {
-    let e = p.entry;
-    let s = p.serializer;
-    if e.any {
+    if opens(o, p.any, p.depth, v) {
         let f = o.formatting;
-        let len = e.note.len;
-        return step(
+        let n = node_of(o, p.pre_depth, v);
+        let b = begin(
             f,
-            s,
-            e.node,
+            p.progress.serializer,
+            n,
             o.list_bullets,
-            &work[..len],
             numbering,
             cells,
             out,
             write,
         );
+        let serializer = b.serializer;
+        let showing = b.showing;
+        let progress = Progress {
+            serializer,
+            len: 0,
+            need: p.progress.need,
+            showing,
+        };
+        return Pass {
+            progress,
+            depth: n.depth,
+            pre_depth: n.pre_depth,
+            tag: n.tag,
+            any: true,
+        };
     }
-    s
+    p
 }
 
-// A visit opens an entry, and the one before it is taken, or it adds to the open one.
-fn write_visit(
+// A visit opens an entry or not, and adds to the open one.
+fn pass_visit(
     o: ExtractOptions,
     s: &[u8],
     l: Layout,
@@ -73,29 +148,26 @@ fn write_visit(
     p: Pass,
     numbering: &mut [usize],
     cells: &mut [bool],
-    work: &mut [u8],
     out: &mut [u8],
     write: bool,
 ) -> Pass
     requires { ⌜ Visits (now s) l v ⌝ }
-    requires { ⌜ PassReady o write p (now work) (lent (now numbering) (now cells) (now out)) (opensOn o (p .entry) v) (fed o (eventOf (now s) l v)) ⌝ }
-    ensures { λ r. ⌜ PassDoes write p (now (work .entry)) (lent (now (numbering .entry)) (now (cells .entry)) (now (out .entry)))
-        r (now (work .exit)) (lent (now (numbering .exit)) (now (cells .exit)) (now (out .exit)))
-        (fed o (eventOf (now (s .entry)) l v)) ⌝ }
+    requires { ⌜ PassReady o write (eventOf (now s) l v) v p (lent (now numbering) (now cells) (now out)) ⌝ }
+    ensures { λ r. ⌜ PassDoes o write p (lent (now (numbering .entry)) (now (cells .entry)) (now (out .entry))) r (lent (now (numbering .exit)) (now (cells .exit)) (now (out .exit))) (fed o (eventOf (now (s .entry)) l v)) ⌝ }
 {
-    let e = p.entry;
-    if opens(o, e, v) {
-        let serializer = take_entry(o, p, numbering, cells, work, out, write);
-        let entry = begin(o, s, l, v, e, work, true);
-        return Pass { entry, serializer };
+    let q = open(o, v, p, numbering, cells, out, write);
+    let progress = add(o, s, l, v, q.tag, q.progress, out, write);
+    Pass {
+        progress,
+        depth: q.depth,
+        pre_depth: q.pre_depth,
+        tag: q.tag,
+        any: q.any,
     }
-    let serializer = p.serializer;
-    let entry = grow(o, s, l, v, e, work, true);
-    Pass { entry, serializer }
 }
 
-// The text of all entries, written or only measured. `left` says which rows are left out.
-pub fn write(
+// The whole pass. `left` says which rows are left out.
+pub fn pass(
     o: ExtractOptions,
     s: &[u8],
     l: Layout,
@@ -108,19 +180,18 @@ pub fn write(
     stack: &mut [usize],
     numbering: &mut [usize],
     cells: &mut [bool],
-    work: &mut [u8],
     out: &mut [u8],
     write: bool,
-) -> Writer
+) -> Passed
     requires { ⌜ Noted (now s) l (now depths) (now tags) (now attributes) (now values) (now lengths) ⌝ }
     requires { ⌜ Walked (now s) l o (now left) × (500 < length (now stack)) × (length (now numbering) ≡ 1024) × (length (now cells) ≡ 1024) ⌝ }
-    requires { ⌜ WriteReady o (runOf (now s) l o (now left)) write (now work) (now out) ⌝ }
-    ensures { λ r. ⌜ ((S : State) → closed o (runOf (now (s .entry)) l o (now (left .entry))) ≡ going S → Held write (now (out .entry)) r (now (out .exit)) (S .out)) ⌝ }
+    requires { ⌜ WriteReady o (now s) l (now left) write (now out) ⌝ }
+    ensures { λ r. ⌜ PassesAll o (now (s .entry)) l (now (left .entry)) write (now (out .entry)) r (now (out .exit)) ⌝ }
 {
-    let entry = OpenEntry::new();
-    let serializer = Serializer::new();
-    let mut p = Pass { entry, serializer };
+    let f = o.formatting;
     let mut w = Walk::Root(l.root);
+    let mut visits = 0;
+    let mut p = start();
     loop {
         let seen = see(
             s,
@@ -136,15 +207,26 @@ pub fn write(
         );
         match seen {
             Seen::Visit(v, after) => {
-                p = write_visit(o, s, l, v, p, numbering, cells, work, out, write);
+                if passes_levels(f, v, p.progress.serializer.depth) {
+                    return Passed::TooManyLevels(v.row + 1);
+                }
+                if passes_rows(v, p.progress.serializer.rows) {
+                    return Passed::TooManyRows(v.row + 1);
+                }
+                p = pass_visit(o, s, l, v, p, numbering, cells, out, write);
                 w = after;
+                visits += 1;
             }
             Seen::LeftOut(after) => {
                 w = after;
+                visits += 1;
             }
             Seen::Done => {
-                let t = take_entry(o, p, numbering, cells, work, out, write);
-                return t.writer;
+                return Passed::Text {
+                    need: p.progress.need,
+                    visits,
+                    writer: p.progress.serializer.writer,
+                };
             }
         }
     }

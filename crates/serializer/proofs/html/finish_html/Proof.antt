@@ -1,36 +1,34 @@
+-- `finish_html` meets its contract.
+use native.Mathlib.Omega.{arith}
+use Rattle.serializer.proofs.HtmlLaws.{finish-able, finish-works, margins-tag}
+use Rattle.serializer.proofs.MarginLaws.{rises-block}
+use Rattle.serializer.proofs.WorksLaws.{margins-after, out-first, out-then, out-alone}
 use borrow.Author.Needs.{needs}
 use Rattle.serializer.proofs.html.finish_html.Statement.{statement}
 use Rattle.serializer.proofs.html.finish_html.Tie as tie
-use Rattle.serializer.proofs.html.finish_html.Reads as reads
-use Rattle.serializer.proofs.html.finish_html.Lts as lts
-use Rattle.serializer.proofs.html.block_after_marks.Reads as block-after-marks-reads
-use Rattle.serializer.proofs.html.block_after_tag.Reads as block-after-tag-reads
-use Rattle.serializer.proofs.html.html_tag.Reads as html-tag-reads
-use Rattle.serializer.proofs.margins.block_margin.Reads as block-margin-reads
 
--- src/html.rt:328:9
 block-after-tag-requires : tie.Need-block-after-tag-requires
 block-after-tag-requires c κs = search needs
 
--- src/html.rt:329:37
 block-after-marks-requires : tie.Need-block-after-marks-requires
 block-after-marks-requires c κs = search needs
 
--- src/html.rt:329:9
 html-tag-requires : tie.Need-html-tag-requires
-html-tag-requires c κs = ?
+html-tag-requires c κs =
+    (c .before .before .before .before .pre .0, rw (c .before .block-after-marks .ensures) (out-first (rises-block _ _) (finish-able _ _ (c .before .before .block-after-tag .ensures) (c .before .before .before .before .pre .1))))
 
--- src/html.rt:330:5
 block-margin-requires : tie.Need-block-margin-requires
-block-margin-requires c κs = ?
+block-margin-requires c κs =
+    let r = c .before .before .before .before .before .before .before .pre .1 in
+    omega (arith, margins-after (margins-tag _ _ _) (r .able) (c .before .before .html-tag .ensures .at (r .numbering) (r .cells)), c .before .before .before .before .before .before .before .pre .0)
 
--- src/html.rt:317:1
 same-length : tie.Need-same-length
 same-length c = search needs
 
--- src/html.rt:317:1
 returns : tie.Need-returns
-returns c = ?
+returns c =
+    finish-works _ _ (c .before .before .before .before .before .before .block-after-tag .ensures)
+    (out-then (rw (c .before .before .before .before .before .block-after-marks .ensures) at (c .before .before .before .html-tag .ensures)) (out-alone (c .block-margin .ensures)))
 
 pub finish-html-spec : {M : Type 1} → statement M
 finish-html-spec =

@@ -1,59 +1,45 @@
+-- `after` meets its contract.
 use borrow.Author.Needs.{needs}
 use Rattle.serializer.proofs.step.after.Statement.{statement}
 use Rattle.serializer.proofs.step.after.Tie as tie
-use Rattle.serializer.proofs.step.after.Reads as reads
-use Rattle.serializer.proofs.step.after.Lts as lts
-use Rattle.serializer.proofs.step.after_basic.Reads as after-basic-reads
-use Rattle.serializer.proofs.step.after_html.Reads as after-html-reads
-use Rattle.serializer.proofs.step.after_off.Reads as after-off-reads
 
--- src/step.rt:94:28
 enum-told : tie.Need-enum-told
 enum-told c = search needs
 
--- src/step.rt:94:28
 after-off-requires : tie.Need-after-off-requires
 after-off-requires c κs = search needs
 
--- src/step.rt:95:57
 enum-told-2 : tie.Need-enum-told-2
 enum-told-2 c = search needs
 
--- src/step.rt:95:30
 after-basic-requires : tie.Need-after-basic-requires
-after-basic-requires c κs = ?
+after-basic-requires c κs =
+    ((c .before .before .before .before .before .pre .0 .1 (rw (c .before .enum-told2 .given .1)), c .before .before .before .before .before .pre .0 .2), record { write = _; cells = _; out = _; able = rw (c .before .enum-told2 .given .1) at (c .before .before .before .before .before .pre .1 .able) })
 
--- src/step.rt:96:62
 enum-told-3 : tie.Need-enum-told-3
 enum-told-3 c = search needs
 
--- src/step.rt:96:36
 after-html-requires : tie.Need-after-html-requires
-after-html-requires c κs = ?
+after-html-requires c κs =
+    (c .before .before .before .before .before .before .pre .0 .1 (rw (c .before .before .enum-told3 .given .1)), record { cells = _; able = rw (c .before .before .enum-told3 .given .1) at (c .before .before .before .before .before .before .pre .1 .able) })
 
--- src/step.rt:80:1
 returns : tie.Need-returns
-returns c = ?
+returns c = record { at = λ cells. rw (c .before .enum-told .given .1) (c .after-off .ensures .at _ _) }
 
--- src/step.rt:80:1
 same-length : tie.Need-same-length
 same-length c = search needs
 
--- src/step.rt:80:1
 returns-2 : tie.Need-returns-2
-returns-2 c = ?
+returns-2 c = record { at = λ cells. rw (c .before .before .before .before .enum-told2 .given .1) (c .before .before .after-basic .ensures .at _ cells _) }
 
--- src/step.rt:80:1
 same-length-2 : tie.Need-same-length-2
 same-length-2 c = search needs
 
--- src/step.rt:80:1
 same-length-3 : tie.Need-same-length-3
 same-length-3 c = search needs
 
--- src/step.rt:80:1
 returns-3 : tie.Need-returns-3
-returns-3 c = ?
+returns-3 c = record { at = λ cells. rw (c .before .before .before .before .before .before .before .enum-told3 .given .1) (c .before .before .before .before .after-html .ensures .at cells) }
 
 pub after-spec : {M : Type 1} → statement M
 after-spec =

@@ -1,17 +1,16 @@
+-- `after_off` meets its contract.
+use mathlib.Core.Path.{sym}
+use Rattle.serializer.proofs.StepLaws.{after-off-none}
+use Rattle.serializer.proofs.WorksLaws.{works-by}
 use borrow.Author.Needs.{needs}
 use Rattle.serializer.proofs.step.after_off.Statement.{statement}
 use Rattle.serializer.proofs.step.after_off.Tie as tie
-use Rattle.serializer.proofs.step.after_off.Reads as reads
-use Rattle.serializer.proofs.step.after_off.Lts as lts
-use Rattle.serializer.proofs.margins.block_margin.Reads as block-margin-reads
 
--- src/step.rt:49:5
 block-margin-requires : tie.Need-block-margin-requires
 block-margin-requires c κs = search needs
 
--- src/step.rt:45:1
 returns : tie.Need-returns
-returns c = ?
+returns c = record { at = λ write a. works-by (c .block-margin .ensures .at write a) (λ under S h. sym (after-off-none _ _ S)) }
 
 pub after-off-spec : {M : Type 1} → statement M
 after-off-spec = tie.close (tie.spec block-margin-requires returns)
