@@ -3,13 +3,13 @@ use collect::Visit;
 use collect::added::add;
 use collect::entry::node_of;
 use collect::entry::opens;
+use html2text::Showing;
 use options::ExtractOptions;
 use options::Formatting;
 use serializer::Progress;
 use serializer::Serializer;
 use serializer::changes_level;
 use serializer::step::begin;
-use serializer::step::dropped_showing;
 use serializer::step::is_off;
 use sheet::line::Layout;
 use visits::Seen;
@@ -55,7 +55,13 @@ fn start() -> Pass
     ensures { λ r. ⌜ r ≡ noPass ⌝ }
 {
     let serializer = Serializer::new();
-    let showing = dropped_showing();
+    let showing = Showing {
+        dropped: true,
+        squeeze: false,
+        escapes: false,
+        empty: true,
+        space: false,
+    };
     let progress = Progress {
         serializer,
         len: 0,
