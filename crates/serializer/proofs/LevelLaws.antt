@@ -13,8 +13,7 @@ use Rattle.common.proofs.Choice.{by-cond, by-test}
 use Rattle.tags.specs.Tags.{isLi, isOl}
 use Rattle.html2text.specs.Serialize.{State, withUncollapsed, one, numberText, countUncollapsed, changesLevel, level, numberOf, item}
 use Rattle.html2text.specs.declared.ExtractNode.{ExtractNode}
-use Rattle.serializer.specs.Serializing.{setPrefix, setBullet, setDepth, setUncollapsed, Lent, lent, Stands, WorksAlone, WorksLevels, Numbers, counted, lastNumber, levels}
-use Rattle.serializer.specs.declared.Prefix.the-variants.{Nothing, Bullet, Number}
+use Rattle.serializer.specs.Serializing.{setPrefix, setBullet, setDepth, setUncollapsed, Lent, lent, Stands, WorksAlone, WorksLevels, Numbers, counted, lastNumber, levels, prefixText}
 use Rattle.serializer.specs.declared.Serializer.{Serializer}
 use Rattle.serializer.proofs.StandsLaws.{stands-prefix, stands-bullet, stands-uncollapsed, stands-levels, stack-pop, stack-pop-length, stack-push, stack-push-length, stack-top, stack-set, stack-set-length}
 use Rattle.serializer.proofs.WorksLaws.{Rises, rises-none, rises-then, rises-cond, works-none, works-then, works-by}
@@ -25,7 +24,7 @@ module _ (s : Serializer) (n : ExtractNode) (nums : List ℕ) where
   test-is : {t : Bool} → changesLevel (n .tag) (s .depth) ≡ t → {write : Bool} {under : Bytes} {a : Lent} {S : State} → Stands write under s a S → changesLevel (n .tag) (S .depth) ≡ t
   test-is e h = ap (changesLevel (n .tag)) (sym (h .depth)) ∙ e
 
-  pub level-close : changesLevel (n .tag) (s .depth) ≡ true → n .end ≡ true → WorksLevels s nums (setBullet false (setPrefix Nothing (setDepth (s .depth - 1) s))) nums (level n)
+  pub level-close : changesLevel (n .tag) (s .depth) ≡ true → n .end ≡ true → WorksLevels s nums (setBullet false (setPrefix 0 (setDepth (s .depth - 1) s))) nums (level n)
   unfolding level
   level-close e f =
       record {
@@ -72,7 +71,7 @@ levels-works {s = s} n d = record { at = λ write cells out. works-then (count-w
 
 -- ---- the numbers of the open levels
 
-pub numbers-close : {s : Serializer} {nums : List ℕ} → Numbers s nums → Numbers (setBullet false (setPrefix Nothing (setDepth (s .depth - 1) s))) nums
+pub numbers-close : {s : Serializer} {nums : List ℕ} → Numbers s nums → Numbers (setBullet false (setPrefix 0 (setDepth (s .depth - 1) s))) nums
 numbers-close h = record { within = omega (arith, h .within); small = λ i l. h .small i (omega arith) }
 
 one-small : (b : Bool) → one b < 4611686018427387904
@@ -102,6 +101,10 @@ last-small {s = s} q h =
 
 -- ---- items
 
+-- a number as a prefix
+prefix-of : (k : ℕ) → (k ≡ 0 → ⊥) → prefixText (k + 1) ≡ numberText k
+prefix-of k z = let e : k + 1 - 1 ≡ k = omega arith in rw (ne-eqb (k + 1) 0 (λ q. omega arith), ne-eqb (k + 1) 1 (λ q. z (omega arith)), e)
+
 module _ {write : Bool} {under : Bytes} {s : Serializer} {a : Lent} {S : State} (h : Stands write under s a S) where
   number-is : numberOf S ≡ lastNumber (a .numbering) (s .depth)
   unfolding numberOf
@@ -116,7 +119,7 @@ module _ (s : Serializer) (n : ExtractNode) (nums : List ℕ) (bullets : Bool) w
   item-none e = record { at = λ write cells out. works-by works-none (λ under S h. sym (rw e)) }
 
   module _ (e : (bullets && isLi (n .tag)) ≡ true) {k : ℕ} (q : k ≡ lastNumber nums (s .depth)) where
-    pub item-bullet : k ≡ 0 → {b : Bool} → b ≡ not (n .end) → WorksLevels s nums (setBullet b (setPrefix Bullet s)) nums (item bullets n)
+    pub item-bullet : k ≡ 0 → {b : Bool} → b ≡ not (n .end) → WorksLevels s nums (setBullet b (setPrefix 1 s)) nums (item bullets n)
     unfolding item
     item-bullet z f = record { at = λ write cells out. record { run = λ under S h. rw (e, eq-eqb (numberOf S) 0 (number-is h ∙ sym q ∙ z), f) (stands-bullet (stands-prefix h refl) (not (n .end))) } }
 
@@ -124,12 +127,12 @@ module _ (s : Serializer) (n : ExtractNode) (nums : List ℕ) (bullets : Bool) w
       number-not : {write : Bool} {under : Bytes} {cells : List Bool} {out : Bytes} {S : State} → Stands write under s (lent nums cells out) S → eqb (numberOf S) 0 ≡ false
       number-not {S = S} h = ne-eqb (numberOf S) 0 (λ y. z (q ∙ sym (number-is h) ∙ y))
 
-      pub item-end : n .end ≡ true → WorksLevels s nums (setBullet false (setPrefix (Number k) s)) nums (item bullets n)
+      pub item-end : n .end ≡ true → WorksLevels s nums (setBullet false (setPrefix (k + 1) s)) nums (item bullets n)
       unfolding item
       item-end f =
-          record { at = λ write cells out. record { run = λ under S h. rw (e, number-not h, f) (stands-bullet (stands-prefix h (ap numberText (q ∙ sym (number-is h)))) false) } }
+          record { at = λ write cells out. record { run = λ under S h. rw (e, number-not h, f) (stands-bullet (stands-prefix h (prefix-of k z ∙ ap numberText (q ∙ sym (number-is h)))) false) } }
 
-      pub item-number : n .end ≡ false → WorksLevels s nums (setBullet true (setPrefix (Number k) s)) (set nums (s .depth - 1) (k + 1)) (item bullets n)
+      pub item-number : n .end ≡ false → WorksLevels s nums (setBullet true (setPrefix (k + 1) s)) (set nums (s .depth - 1) (k + 1)) (item bullets n)
       unfolding item
       item-number f =
           record {
@@ -138,7 +141,7 @@ module _ (s : Serializer) (n : ExtractNode) (nums : List ℕ) (bullets : Bool) w
                   let m : k ≡ numberOf S = q ∙ sym (number-is h) in
                   rw (e, number-not h, f, ← m)
                   (stands-bullet (stands-prefix (stands-levels h (h .depth)
-                  (stack-set-length nums (S .numbering) (s .depth) (h .deep) (h .numbering) (k + 1)) (stack-set nums (S .numbering) (s .depth) (h .deep) (h .numbering) (k + 1) (last-open nums (s .depth) q z))) refl) true);
+                  (stack-set-length nums (S .numbering) (s .depth) (h .deep) (h .numbering) (k + 1)) (stack-set nums (S .numbering) (s .depth) (h .deep) (h .numbering) (k + 1) (last-open nums (s .depth) q z))) (prefix-of k z)) true);
             };
           }
 

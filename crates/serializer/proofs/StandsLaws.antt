@@ -17,7 +17,6 @@ use Rattle.writer.specs.Writing.{Held}
 use Rattle.writer.specs.declared.Writer.{Writer}
 use Rattle.writer.proofs.HeldLaws.{held-none}
 use Rattle.serializer.specs.Serializing.{noSerializer, setWriter, setPrefix, setBullet, setDepth, setMargins, setUncollapsed, setRows, Lent, lent, Stands, Able, prefixText}
-use Rattle.serializer.specs.declared.Prefix.{Prefix}
 use Rattle.serializer.specs.declared.Serializer.{Serializer}
 
 -- ---- the first k elements of an array as a stack, its top last
@@ -55,7 +54,7 @@ module _ {write : Bool} {under : Bytes} {s : Serializer} {a : Lent} {S : State} 
   pub stands-out : {w : Writer} {buf : Bytes} {o : Out} → Held write under w buf o → Stands write under (setWriter w s) (lent (a .numbering) (a .cells) buf) (onOut (λ _. o) S)
   stands-out k = record { held = k; prefix = h .prefix; bullet = h .bullet; depth = h .depth; margins = h .margins; uncollapsed = h .uncollapsed; deep = h .deep; numbering = h .numbering; rows = h .rows; cells = h .cells }
 
-  pub stands-prefix : {p : Prefix} {t : Bytes} → prefixText p ≡ t → Stands write under (setPrefix p s) a (withPrefix t S)
+  pub stands-prefix : {p : ℕ} {t : Bytes} → prefixText p ≡ t → Stands write under (setPrefix p s) a (withPrefix t S)
   stands-prefix e = record { held = h .held; prefix = e; bullet = h .bullet; depth = h .depth; margins = h .margins; uncollapsed = h .uncollapsed; deep = h .deep; numbering = h .numbering; rows = h .rows; cells = h .cells }
 
   pub stands-bullet : (b : Bool) → Stands write under (setBullet b s) a (withBullet b S)

@@ -2,13 +2,13 @@
 use mathlib.Core.Path.{_≡_, refl, sym, ap, _∙_}
 use mathlib.Core.Bool.{Bool, true, false, _&&_, _||_, not}
 use mathlib.Core.List.{List, [], _∷_, _++_}
-use Prim.Native.Nat.{ℕ, suc, _+_, _*_, _≤_, _<_}
+use Prim.Native.Nat.{ℕ, suc, _+_, _-_, _*_, _≤_, _<_}
 use native.Mathlib.Numerals.{add-one}
 use native.Mathlib.Omega.{arith}
-use lib.Dec.{ltb}
+use lib.Dec.{eqb, ltb}
 use lib.ListN.{length, getD, drop, replicate, length-replicate, drop-of-length-le}
 use lib.Seq.{drop-cons}
-use borrow.Author.Tests.{lt-ltb}
+use borrow.Author.Tests.{lt-ltb, ne-eqb}
 use Rattle.common.specs.Bytes.{Bytes, isEmpty}
 use Rattle.common.proofs.Choice.{by-test}
 use Rattle.text.specs.Text.{isSpace, squeezed, collapseBy, collapseFrom}
@@ -21,10 +21,9 @@ use Rattle.writer.specs.declared.Writer.{Writer}
 use Rattle.writer.proofs.DoesLaws.{grows-push-all}
 use Rattle.writer.proofs.HeldLaws.{run-small}
 use Rattle.writer.proofs.ShownLaws.{shown-shortened}
-use Rattle.html2text.specs.Serialize.{State, onOut, withPrefix, withBullet, withUncollapsed, one, collapses, margin, trims, shortened, indentText, lead, putText}
+use Rattle.html2text.specs.Serialize.{State, onOut, withPrefix, withBullet, withUncollapsed, one, collapses, margin, trims, shortened, indentText, lead, putText, bulletText, numberText}
 use Rattle.html2text.specs.declared.ExtractNode.{ExtractNode}
 use Rattle.serializer.specs.Serializing.{setWriter, setPrefix, setBullet, setUncollapsed, Lent, lent, Stands, AbleOut, WorksAlone, WorksOut, prefixText, allBlank}
-use Rattle.serializer.specs.declared.Prefix.the-variants.{Nothing}
 use Rattle.serializer.specs.declared.Serializer.{Serializer}
 use Rattle.serializer.proofs.MarginLaws.{rises-margin}
 use Rattle.serializer.proofs.RowLaws.{ends-blank}
@@ -79,10 +78,14 @@ trims-is {S = S} block h = rw (h .held .len, h .held .kept, ends-blank (S .out .
 -- ---- indentation
 
 abbrev pub width : Bool → Serializer → ℕ
-width bullets s = (s .depth + one (bullets && not (s .bullet))) * 2
+width bullets s = (s .depth + one (bullets && eqb (s .bullet) 0)) * 2
 
 abbrev widthOf : Bool → State → ℕ
 widthOf bullets S = (S .depth + one (bullets && not (S .bullet))) * 2
+
+no-bullet : (b : Bool) → eqb (one b) 0 ≡ not b
+no-bullet true = refl
+no-bullet false = refl
 
 bullet-alone : (s : Serializer) (b : Bool) → WorksAlone s (setBullet b s) (withBullet b)
 bullet-alone s b = record { at = λ write a. record { run = λ under S h. stands-bullet h b } }
@@ -95,7 +98,7 @@ module _ {write : Bool} {s : Serializer} (basic bullets : Bool) where
   test-is e h = ap (λ (d : ℕ). basic && ltb 0 d) (sym (h .depth)) ∙ e
 
   width-is : (under : Bytes) (a : Lent) (S : State) → Stands write under s a S → indentation bullets S (S .out) ≡ pushAll (replicate (width bullets s) 0x20) (S .out)
-  width-is under a S h = rw (h .depth, h .bullet)
+  width-is under a S h = rw (h .depth, h .bullet, no-bullet (S .bullet))
 
   module _ {buf : Bytes} (e : (basic && ltb 0 (s .depth)) ≡ true) where
     indent-is : (numbering : List ℕ) (cells : List Bool) (under : Bytes) (S : State) → Stands write under s (lent numbering cells buf) S → indentText basic bullets S ≡ withBullet false (onOut (indentation bullets S) S)
@@ -129,7 +132,16 @@ pub lead-is : (basic bullets : Bool) (S : State) → lead basic bullets S ≡ pr
 unfolding lead prefixOut
 lead-is basic bullets S = refl
 
-prefix-alone : (s : Serializer) → WorksAlone s (setPrefix Nothing s) (withPrefix [])
+pub prefix-none : (k : ℕ) → k ≡ 0 → prefixText k ≡ []
+prefix-none k e = rw e
+
+pub prefix-bullet : (k : ℕ) → k ≡ 1 → prefixText k ≡ bulletText
+prefix-bullet k e = rw e
+
+pub prefix-number : (k : ℕ) → (k ≡ 0 → ⊥) → (k ≡ 1 → ⊥) → prefixText k ≡ numberText (k - 1)
+prefix-number k n o = rw (ne-eqb k 0 n, ne-eqb k 1 o)
+
+prefix-alone : (s : Serializer) → WorksAlone s (setPrefix 0 s) (withPrefix [])
 prefix-alone s = record { at = λ write a. record { run = λ under S h. stands-prefix h refl } }
 
 module _ {write : Bool} {s : Serializer} where
@@ -140,7 +152,7 @@ module _ {write : Bool} {s : Serializer} where
   unfolding prefixOut
   prefix-ready r = let k = r .able in record { under = k .under; out = k .state .out; held = k .stands .held; room = rw (k .stands .prefix) (k .room) }
 
-  pub prefix-works : {buf : Bytes} {w : Writer} {buf′ : Bytes} → Does write (s .writer) buf w buf′ (pushAll (prefixText (s .prefix))) → WorksOut write s buf (setPrefix Nothing (setWriter w s)) buf′ prefixOut
+  pub prefix-works : {buf : Bytes} {w : Writer} {buf′ : Bytes} → Does write (s .writer) buf w buf′ (pushAll (prefixText (s .prefix))) → WorksOut write s buf (setPrefix 0 (setWriter w s)) buf′ prefixOut
   unfolding prefixOut
   prefix-works d = out-then (text-works (λ S. pushAll (S .prefix)) prefix-is d) (out-alone (prefix-alone _))
 

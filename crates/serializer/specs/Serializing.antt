@@ -13,31 +13,28 @@ use Rattle.text.specs.Text.{isSpace}
 use Rattle.writer.specs.Out.{Out, pushAll}
 use Rattle.writer.specs.Writing.{Held, Room}
 use Rattle.writer.specs.declared.Writer.{Writer}
-use Rattle.html2text.specs.Serialize.{State, bulletText, numberText, changesLevel, countUncollapsed, level}
+use Rattle.html2text.specs.Serialize.{State, bulletText, numberText, changesLevel, countUncollapsed, level, one}
 use Rattle.html2text.specs.declared.ExtractNode.{ExtractNode}
-use Rattle.serializer.specs.declared.Prefix.{Prefix}
-use Rattle.serializer.specs.declared.Prefix.the-variants.{Nothing, Bullet, Number}
 use Rattle.serializer.specs.declared.Serializer.{Serializer}
 
-abbrev pub prefixText : Prefix → Bytes
-prefixText Nothing = []
-prefixText Bullet = bulletText
-prefixText (Number k) = numberText k
+-- what stands before an item's text: 0 nothing, 1 a bullet, k + 1 the number k
+abbrev pub prefixText : ℕ → Bytes
+prefixText k = cond (eqb k 0) [] (cond (eqb k 1) bulletText (numberText (k - 1)))
 
 -- before the first entry
 abbrev pub noSerializer : Serializer
-noSerializer = record { writer = record { len = 0; kept = 0; peak = 0 }; prefix = Nothing; bullet = false; depth = 0; margins = 0; uncollapsed = 0; rows = 0 }
+noSerializer = record { writer = record { len = 0; kept = 0; peak = 0 }; prefix = 0; bullet = 0; depth = 0; margins = 0; uncollapsed = 0; rows = 0 }
 
 -- ---- the numbers with a part new
 
 abbrev pub setWriter : Writer → Serializer → Serializer
 setWriter w s = record { writer = w; prefix = s .prefix; bullet = s .bullet; depth = s .depth; margins = s .margins; uncollapsed = s .uncollapsed; rows = s .rows }
 
-abbrev pub setPrefix : Prefix → Serializer → Serializer
+abbrev pub setPrefix : ℕ → Serializer → Serializer
 setPrefix p s = record { writer = s .writer; prefix = p; bullet = s .bullet; depth = s .depth; margins = s .margins; uncollapsed = s .uncollapsed; rows = s .rows }
 
 abbrev pub setBullet : Bool → Serializer → Serializer
-setBullet b s = record { writer = s .writer; prefix = s .prefix; bullet = b; depth = s .depth; margins = s .margins; uncollapsed = s .uncollapsed; rows = s .rows }
+setBullet b s = record { writer = s .writer; prefix = s .prefix; bullet = one b; depth = s .depth; margins = s .margins; uncollapsed = s .uncollapsed; rows = s .rows }
 
 abbrev pub setDepth : ℕ → Serializer → Serializer
 setDepth d s = record { writer = s .writer; prefix = s .prefix; bullet = s .bullet; depth = d; margins = s .margins; uncollapsed = s .uncollapsed; rows = s .rows }
@@ -64,7 +61,7 @@ lent numbering cells out = record { numbering = numbering; cells = cells; out = 
 pub record Stands (write : Bool) (under : Bytes) (s : Serializer) (a : Lent) (S : State) : Type 0 where
   pub held : Held write under (s .writer) (a .out) (S .out)
   pub prefix : prefixText (s .prefix) ≡ S .prefix
-  pub bullet : s .bullet ≡ S .bullet
+  pub bullet : s .bullet ≡ one (S .bullet)
   pub depth : s .depth ≡ S .depth
   pub margins : s .margins ≡ S .margins
   pub uncollapsed : s .uncollapsed ≡ S .uncollapsed

@@ -13,6 +13,7 @@ use crate::margins::block_margin;
 use crate::margins::collapses;
 use crate::margins::margin;
 use crate::margins::strip_if;
+use crate::one;
 use html2text::ExtractNode;
 use writer::Writer;
 ghost use mathlib.Core.Bool.{_&&_, _||_, cond, not, true};
@@ -135,15 +136,6 @@ fn opens_tag(n: ExtractNode, uncollapsed: usize) -> bool
     ensures { λ r. ⌜ r ≡ opensTag n uncollapsed ⌝ }
 {
     opens_plain(n) || (0 < uncollapsed && n.collapse_margins)
-}
-
-fn one(b: bool) -> usize
-    ensures { λ r. ⌜ r ≡ one b ⌝ }
-{
-    if b {
-        return 1;
-    }
-    0
 }
 
 fn tag_margins(n: ExtractNode, block: bool, margins: usize) -> usize

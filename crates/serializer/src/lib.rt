@@ -10,7 +10,7 @@ use html2text::Showing;
 use writer::Writer;
 ghost use mathlib.Core.Path.{_≡_};
 ghost use Prim.Native.Nat.{_-_};
-ghost use Rattle.html2text.specs.Serialize.{changesLevel};
+ghost use Rattle.html2text.specs.Serialize.{changesLevel, one};
 ghost use Rattle.tags.specs.Tags.{isList};
 ghost use Rattle.serializer.specs.Serializing.{noSerializer};
 
@@ -33,22 +33,16 @@ const H1: u8 = 8;
 
 const P: u8 = 14;
 
-// What stands before an item's text.
-pub enum Prefix {
-    Nothing,
-    Bullet,
-    Number(usize),
-}
-
-// The state of `serialize`. `numbering` and `row_has_cell` are lent; their first `depth` and `rows` elements are in use.
+// The state of `serialize`. `numbering` and `row_has_cell` are lent; their first `depth` and `rows` elements are in use. prefix: what stands
+// before an item's text, 0 nothing, 1 a bullet, k + 1 the number k; bullet: 1 where `bullet`. Words alone, so that a copy has no gaps.
 pub struct Serializer {
     pub writer: Writer,
     pub depth: usize,
     pub margins: usize,
     pub uncollapsed: usize,
     pub rows: usize,
-    pub prefix: Prefix,
-    pub bullet: bool,
+    pub prefix: usize,
+    pub bullet: usize,
 }
 
 // Behind all of a step but the text, and how the text is shown.
@@ -77,14 +71,24 @@ impl Serializer {
                 kept: 0,
                 peak: 0,
             },
-            prefix: Prefix::Nothing,
-            bullet: false,
+            prefix: 0,
+            bullet: 0,
             depth: 0,
             margins: 0,
             uncollapsed: 0,
             rows: 0,
         }
     }
+}
+
+// `usize::from(b)`
+fn one(b: bool) -> usize
+    ensures { λ r. ⌜ r ≡ one b ⌝ }
+{
+    if b {
+        return 1;
+    }
+    0
 }
 
 // `x.saturating_sub(1)`

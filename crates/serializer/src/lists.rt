@@ -1,10 +1,10 @@
 // List levels, and the prefixes of items.
 use crate::LI;
 use crate::OL;
-use crate::Prefix;
 use crate::Serializer;
 use crate::changes_level;
 use crate::less_one;
+use crate::one;
 use html2text::ExtractNode;
 ghost use mathlib.Core.Bool.{_&&_, false, not, true};
 ghost use mathlib.Core.Path.{_≡_};
@@ -13,7 +13,6 @@ ghost use lib.ListN.{length};
 ghost use Rattle.html2text.specs.Serialize.{changesLevel, item, level, one};
 ghost use Rattle.tags.specs.Tags.{isLi, isOl};
 ghost use Rattle.serializer.specs.Serializing.{Numbers, WorksLevels, counted, lastNumber, levels, setBullet, setDepth, setPrefix};
-ghost use Rattle.serializer.specs.declared.Prefix.the-variants.{Nothing};
 
 fn first_number(tag: u8) -> usize
     ensures { λ r. ⌜ r ≡ one (isOl tag) ⌝ }
@@ -24,10 +23,11 @@ fn first_number(tag: u8) -> usize
     0
 }
 
-fn prefixed(s: Serializer, prefix: Prefix, bullet: bool) -> Serializer
+fn prefixed(s: Serializer, prefix: usize, bullet: bool) -> Serializer
     ensures { λ r. ⌜ r ≡ setBullet bullet (setPrefix prefix s) ⌝ }
 {
     let writer = s.writer;
+    let bullet = one(bullet);
     Serializer {
         writer,
         prefix,
@@ -40,9 +40,9 @@ fn prefixed(s: Serializer, prefix: Prefix, bullet: bool) -> Serializer
 }
 
 fn close_level(s: Serializer) -> Serializer
-    ensures { λ r. ⌜ r ≡ setBullet false (setPrefix Nothing (setDepth (s .depth - 1) s)) ⌝ }
+    ensures { λ r. ⌜ r ≡ setBullet false (setPrefix 0 (setDepth (s .depth - 1) s)) ⌝ }
 {
-    let mut r = prefixed(s, Prefix::Nothing, false);
+    let mut r = prefixed(s, 0, false);
     r.depth = less_one(s.depth);
     r
 }
@@ -121,14 +121,14 @@ pub fn item(s: Serializer, n: ExtractNode, bullets: bool, numbering: &mut [usize
     if is_item(bullets, n) {
         let number = last_number(&numbering[..], s.depth);
         if number == 0 {
-            return prefixed(s, Prefix::Bullet, !n.end);
+            return prefixed(s, 1, !n.end);
         }
         if n.end {
-            return prefixed(s, Prefix::Number(number), false);
+            return prefixed(s, number + 1, false);
         }
         let at = s.depth - 1;
         numbering[at] = number + 1;
-        return prefixed(s, Prefix::Number(number), true);
+        return prefixed(s, number + 1, true);
     }
     s
 }

@@ -1,5 +1,4 @@
 // The text of an entry, piece by piece, and what stands before it.
-use crate::Prefix;
 use crate::Progress;
 use crate::Serializer;
 use crate::margins::collapses;
@@ -11,7 +10,7 @@ use options::Formatting;
 use writer::Writer;
 ghost use mathlib.Core.Bool.{_&&_, _||_, not};
 ghost use mathlib.Core.Path.{_≡_};
-ghost use lib.Dec.{ltb};
+ghost use lib.Dec.{eqb, ltb};
 ghost use Rattle.common.specs.Bytes.{isEmpty};
 ghost use Rattle.html2text.specs.Serialize.{indentText, lead, one, shortened};
 ghost use Rattle.html2text.specs.Showing.{leadIn, showPiece, showsAny};
@@ -63,14 +62,14 @@ fn is_indented(basic: bool, depth: usize) -> bool
 }
 
 // `usize::from(opts.list_bullets && !bullet)`
-fn without_bullet(bullets: bool, bullet: bool) -> usize
-    ensures { λ r. ⌜ r ≡ one (bullets && not bullet) ⌝ }
+fn without_bullet(bullets: bool, bullet: usize) -> usize
+    ensures { λ r. ⌜ r ≡ one (bullets && eqb bullet 0) ⌝ }
 {
     if bullets {
-        if bullet {
-            return 0;
+        if bullet == 0 {
+            return 1;
         }
-        return 1;
+        return 0;
     }
     0
 }
@@ -85,24 +84,24 @@ fn indent(s: Serializer, basic: bool, bullets: bool, out: &mut [u8], write: bool
         let w = writer::pad(s.writer, 32, (s.depth + more) * 2, out, write);
         let mut r = s;
         r.writer = w;
-        r.bullet = false;
+        r.bullet = 0;
         return r;
     }
     s
 }
 
-fn put_prefix(w: Writer, prefix: Prefix, out: &mut [u8], write: bool) -> Writer
+fn put_prefix(w: Writer, prefix: usize, out: &mut [u8], write: bool) -> Writer
     requires { ⌜ Ready write w (now out) (pushAll (prefixText prefix)) ⌝ }
     ensures { λ r. ⌜ Does write w (now (out .entry)) r (now (out .exit)) (pushAll (prefixText prefix)) ⌝ }
 {
-    match prefix {
-        Prefix::Nothing => w,
-        Prefix::Bullet => writer::put(w, b"\xE2\x80\xA2 ", out, write),
-        Prefix::Number(k) => {
-            let q = writer::put_number(w, k, out, write);
-            writer::put(q, b". ", out, write)
-        }
+    if prefix == 0 {
+        return w;
     }
+    if prefix == 1 {
+        return writer::put(w, b"\xE2\x80\xA2 ", out, write);
+    }
+    let q = writer::put_number(w, prefix - 1, out, write);
+    writer::put(q, b". ", out, write)
 }
 
 // Indentation and prefix.
@@ -111,17 +110,11 @@ fn lead(s: Serializer, basic: bool, bullets: bool, out: &mut [u8], write: bool) 
     ensures { λ r. ⌜ WorksOut write s (now (out .entry)) r (now (out .exit)) (lead basic bullets) ⌝ }
 {
     let a = indent(s, basic, bullets, out, write);
-    let prefix = a.prefix;
-    let writer = put_prefix(a.writer, prefix, out, write);
-    Serializer {
-        writer,
-        prefix: Prefix::Nothing,
-        bullet: a.bullet,
-        depth: a.depth,
-        margins: a.margins,
-        uncollapsed: a.uncollapsed,
-        rows: a.rows,
-    }
+    let w = put_prefix(a.writer, a.prefix, out, write);
+    let mut r = a;
+    r.writer = w;
+    r.prefix = 0;
+    r
 }
 
 // How the text of an entry is shown, behind what stands before it.

@@ -1,67 +1,72 @@
--- `put_prefix` meets its contract.
-use mathlib.Core.Path.{ap}
 use Rattle.common.specs.Bytes.{codes}
 use Rattle.writer.proofs.DoesLaws.{ready-same, does-same, does-nothing, does-append, ready-left, ready-right}
-use Rattle.serializer.specs.Serializing.{prefixText}
+use Rattle.serializer.proofs.TextLaws.{prefix-none, prefix-bullet, prefix-number}
 use borrow.Author.Needs.{needs}
 use Rattle.serializer.proofs.texts.put_prefix.Statement.{statement}
 use Rattle.serializer.proofs.texts.put_prefix.Tie as tie
+use Rattle.serializer.proofs.texts.put_prefix.Reads as reads
+use Rattle.serializer.proofs.texts.put_prefix.Lts as lts
+use Rattle.writer.proofs.put.Reads as put-reads
+use Rattle.writer.proofs.put_number.Reads as put-number-reads
 
-enum-told : tie.Need-enum-told
-enum-told c = search needs
+-- src/texts.rt:98:9
+returns : tie.Need-returns
+returns c = does-nothing (prefix-none _ (c .if1 .taken))
 
-enum-told-2 : tie.Need-enum-told-2
-enum-told-2 c = search needs
-
+-- src/texts.rt:101:31
 slice-aggregate-put : tie.Need-slice-aggregate-put
 slice-aggregate-put c = search needs
 
+-- src/texts.rt:101:9
 put-requires : tie.Need-put-requires
-put-requires c κs = ready-same (ap prefixText (c .before .before .enum-told2 .given .1)) (c .before .before .before .before .before .pre)
+put-requires c κs = ready-same (prefix-bullet _ (c .before .before .if2 .taken)) (c .before .before .before .before .before .pre)
 
-enum-known-prefix : tie.Need-enum-known-prefix
-enum-known-prefix c = search needs
-
-put-number-requires : tie.Need-put-number-requires
-put-number-requires c κs = ready-left _ _ (ready-same (ap prefixText (c .before .before .prefix .given .1)) (c .before .before .before .before .before .pre))
-
-slice-aggregate-put-2 : tie.Need-slice-aggregate-put-2
-slice-aggregate-put-2 c = search needs
-
-put-requires-2 : tie.Need-put-requires-2
-unfolding codes
-put-requires-2 c κs = ready-right _ _ (c .before .before .before .before .put-number .ensures) (ready-same (ap prefixText (c .before .before .before .before .before .before .before .prefix .given .1)) (c .before .before .before .before .before .before .before .before .before .before .pre))
-
-returns : tie.Need-returns
-returns c = does-nothing (ap prefixText (c .enum-told .given .1))
-
+-- src/texts.rt:101:9
 same-length : tie.Need-same-length
 same-length c = search needs
 
+-- src/texts.rt:101:9
 returns-2 : tie.Need-returns-2
-returns-2 c = does-same (ap prefixText (c .before .before .before .before .before .enum-told2 .given .1)) (c .before .before .put .ensures)
+returns-2 c = does-same (prefix-bullet _ (c .before .before .before .before .before .if2 .taken)) (c .before .before .put .ensures)
 
+-- src/texts.rt:103:35
+sub-put-number : tie.Need-sub-put-number
+sub-put-number c = search needs
+
+-- src/texts.rt:103:9
+put-number-requires : tie.Need-put-number-requires
+put-number-requires c κs = ready-left _ _ (ready-same (prefix-number _ (c .before .before .if1 .left) (c .before .if2 .left)) (c .before .before .before .before .pre))
+
+-- src/texts.rt:104:20
+slice-aggregate-put-2 : tie.Need-slice-aggregate-put-2
+slice-aggregate-put-2 c = search needs
+
+-- src/texts.rt:104:5
+put-requires-2 : tie.Need-put-requires-2
+unfolding codes
+put-requires-2 c κs = ready-right _ _ (c .before .before .before .before .put-number .ensures) (ready-same (prefix-number _ (c .before .before .before .before .before .before .before .if1 .left) (c .before .before .before .before .before .before .if2 .left)) (c .before .before .before .before .before .before .before .before .before .pre))
+
+-- src/texts.rt:93:1
 same-length-2 : tie.Need-same-length-2
 same-length-2 c = search needs
 
+-- src/texts.rt:93:1
 returns-3 : tie.Need-returns-3
 unfolding codes
-returns-3 c = does-same (ap prefixText (c .before .before .before .before .before .before .before .before .before .before .prefix .given .1)) (does-append _ _ (c .before .before .before .before .before .before .before .put-number .ensures) (c .before .before .put2 .ensures))
+returns-3 c = does-same (prefix-number _ (c .before .before .before .before .before .before .before .before .before .before .if1 .left) (c .before .before .before .before .before .before .before .before .before .if2 .left)) (does-append _ _ (c .before .before .before .before .before .before .before .put-number .ensures) (c .before .before .put2 .ensures))
 
 pub put-prefix-spec : {M : Type 1} → statement M
 put-prefix-spec =
     tie.close
     (tie.spec
-    enum-told
-    enum-told-2
+    returns
     slice-aggregate-put
     put-requires
-    enum-known-prefix
+    same-length
+    returns-2
+    sub-put-number
     put-number-requires
     slice-aggregate-put-2
     put-requires-2
-    returns
-    same-length
-    returns-2
     same-length-2
     returns-3)
