@@ -1,3 +1,4 @@
 pub mod AddedLaws
 pub mod Attributes
 pub mod EntryLaws
+pub mod PieceLaws

@@ -1,6 +1,5 @@
 -- `added::add` meets its contract.
-use Rattle.writer.specs.Shown.{shown}
-use Rattle.writer.proofs.DoesLaws.{ready-same, does-same}
+use Rattle.collect.proofs.PieceLaws.{show-same, shows-same}
 use Rattle.collect.proofs.AddedLaws.{value-inside, added-value, added-element}
 use borrow.Author.Needs.{needs}
 use Rattle.collect.proofs.added.add.Statement.{statement}
@@ -12,25 +11,23 @@ part-requires c κs = let p = c .before .before .before .before .pre .0 in (p .a
 is-escaped-requires : tie.Need-is-escaped-requires
 is-escaped-requires c κs = search needs
 
-put-text-requires : tie.Need-put-text-requires
-unfolding shown
-put-text-requires c κs = let p = c .before .before .before .before .before .before .before .pre in ready-same (added-value (p .0) _ _ (c .before .before .before .if1 .taken) (c .before .before .part .ensures) (c .before .is-escaped .ensures)) (p .1)
+put-requires : tie.Need-put-requires
+put-requires c κs = let p = c .before .before .before .before .before .before .before .pre in show-same (added-value (p .0) _ _ (c .before .before .before .if1 .taken) (c .before .before .part .ensures) (c .before .is-escaped .ensures)) (p .1)
 
 same-length : tie.Need-same-length
 same-length c = search needs
 
 returns : tie.Need-returns
-unfolding shown
-returns c = does-same (added-value (c .before .before .before .before .before .before .before .before .before .before .pre .0) _ _ (c .before .before .before .before .before .before .if1 .taken) (c .before .before .before .before .before .part .ensures) (c .before .before .before .before .is-escaped .ensures)) (c .before .before .put-text .ensures)
+returns c = shows-same (added-value (c .before .before .before .before .before .before .before .before .before .before .pre .0) _ _ (c .before .before .before .before .before .before .if1 .taken) (c .before .before .before .before .before .part .ensures) (c .before .before .before .before .is-escaped .ensures)) (c .before .before .put .ensures)
 
 add-element-requires : tie.Need-add-element-requires
-add-element-requires c κs = let p = c .before .before .before .before .before .pre in (p .0, ready-same (added-element (p .0) _ _ (c .before .if1 .left)) (p .1))
+add-element-requires c κs = let p = c .before .before .before .before .before .pre in (p .0, show-same (added-element (p .0) _ _ (c .before .if1 .left)) (p .1))
 
 same-length-2 : tie.Need-same-length-2
 same-length-2 c = search needs
 
 returns-2 : tie.Need-returns-2
-returns-2 c = does-same (added-element (c .before .before .before .before .before .before .before .before .pre .0) _ _ (c .before .before .before .before .if1 .left)) (c .before .before .add-element .ensures)
+returns-2 c = shows-same (added-element (c .before .before .before .before .before .before .before .before .pre .0) _ _ (c .before .before .before .before .if1 .left)) (c .before .before .add-element .ensures)
 
 pub add-spec : {M : Type 1} → statement M
 add-spec =
@@ -38,7 +35,7 @@ add-spec =
     (tie.spec
     part-requires
     is-escaped-requires
-    put-text-requires
+    put-requires
     same-length
     returns
     add-element-requires

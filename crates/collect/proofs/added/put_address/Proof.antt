@@ -1,7 +1,7 @@
 -- `added::put_address` meets its contract.
 use mathlib.Core.Path.{refl}
 use Rattle.common.specs.Bytes.{codes}
-use Rattle.writer.proofs.DoesLaws.{does-nothing}
+use Rattle.collect.proofs.PieceLaws.{shows-nothing}
 use borrow.Author.Needs.{needs}
 use Rattle.collect.proofs.added.put_address.Statement.{statement}
 use Rattle.collect.proofs.added.put_address.Tie as tie
@@ -24,7 +24,7 @@ unfolding codes
 returns c = rw (c .before .before .before .before .before .before .if1 .taken) (c .before .before .put-between .ensures)
 
 returns-2 : tie.Need-returns-2
-returns-2 c = rw (c .if1 .left) (does-nothing refl)
+returns-2 c = rw (c .if1 .left) (shows-nothing refl (rw (c .if1 .left) at (c .before .before .before .pre)))
 
 pub put-address-spec : {M : Type 1} → statement M
 put-address-spec =

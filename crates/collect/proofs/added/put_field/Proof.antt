@@ -2,7 +2,7 @@
 use Rattle.common.specs.Bytes.{codes}
 use denote.Ref.{now}
 use Rattle.tree.specs.Page.{nodeAt}
-use Rattle.writer.proofs.DoesLaws.{ready-same, does-same, does-nothing}
+use Rattle.collect.proofs.PieceLaws.{show-same, shows-same, shows-nothing}
 use Rattle.collect.proofs.AddedLaws.{field-none, field-some}
 use borrow.Author.Needs.{needs}
 use Rattle.collect.proofs.added.put_field.Statement.{statement}
@@ -15,7 +15,7 @@ trim-requires : tie.Need-trim-requires
 trim-requires c κs = search needs
 
 returns : tie.Need-returns
-returns c = does-nothing (field-none (nodeAt (now (c .before .before .before .before .before .args .s)) (c .before .before .before .before .before .args .l) (c .before .before .before .before .before .args .v .row)) (c .if1 .taken) (c .before .trim .ensures) (c .before .before .field-value .ensures))
+returns c = shows-nothing (field-none (nodeAt (now (c .before .before .before .before .before .args .s)) (c .before .before .before .before .before .args .l) (c .before .before .before .before .before .args .v .row)) (c .if1 .taken) (c .before .trim .ensures) (c .before .before .field-value .ensures)) (c .before .before .before .before .before .pre .1)
 
 slice-aggregate-put-between : tie.Need-slice-aggregate-put-between
 slice-aggregate-put-between c = search needs
@@ -25,14 +25,14 @@ slice-aggregate-put-between-2 c = search needs
 
 put-between-requires : tie.Need-put-between-requires
 unfolding codes
-put-between-requires c κs = ready-same (field-some (nodeAt (now (c .before .before .before .before .before .before .before .before .args .s)) (c .before .before .before .before .before .before .before .before .args .l) (c .before .before .before .before .before .before .before .before .args .v .row)) (c .before .before .before .if1 .left) (c .before .before .before .before .trim .ensures) (c .before .before .before .before .before .field-value .ensures)) (c .before .before .before .before .before .before .before .before .pre .1)
+put-between-requires c κs = show-same (field-some (nodeAt (now (c .before .before .before .before .before .before .before .before .args .s)) (c .before .before .before .before .before .before .before .before .args .l) (c .before .before .before .before .before .before .before .before .args .v .row)) (c .before .before .before .if1 .left) (c .before .before .before .before .trim .ensures) (c .before .before .before .before .before .field-value .ensures)) (c .before .before .before .before .before .before .before .before .pre .1)
 
 same-length : tie.Need-same-length
 same-length c = search needs
 
 returns-2 : tie.Need-returns-2
 unfolding codes
-returns-2 c = does-same (field-some (nodeAt (now (c .before .before .before .before .before .before .before .before .before .before .before .args .s)) (c .before .before .before .before .before .before .before .before .before .before .before .args .l) (c .before .before .before .before .before .before .before .before .before .before .before .args .v .row)) (c .before .before .before .before .before .before .if1 .left) (c .before .before .before .before .before .before .before .trim .ensures) (c .before .before .before .before .before .before .before .before .field-value .ensures)) (c .before .before .put-between .ensures)
+returns-2 c = shows-same (field-some (nodeAt (now (c .before .before .before .before .before .before .before .before .before .before .before .args .s)) (c .before .before .before .before .before .before .before .before .before .before .before .args .l) (c .before .before .before .before .before .before .before .before .before .before .before .args .v .row)) (c .before .before .before .before .before .before .if1 .left) (c .before .before .before .before .before .before .before .trim .ensures) (c .before .before .before .before .before .before .before .before .field-value .ensures)) (c .before .before .put-between .ensures)
 
 pub put-field-spec : {M : Type 1} → statement M
 put-field-spec =

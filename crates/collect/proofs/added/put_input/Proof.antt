@@ -1,6 +1,6 @@
 -- `added::put_input` meets its contract.
 use mathlib.Core.Path.{sym, refl, _∙_}
-use Rattle.writer.proofs.DoesLaws.{does-nothing}
+use Rattle.collect.proofs.PieceLaws.{shows-nothing}
 use borrow.Author.Needs.{needs}
 use Rattle.collect.proofs.added.put_input.Statement.{statement}
 use Rattle.collect.proofs.added.put_input.Tie as tie
@@ -9,7 +9,7 @@ is-unshown-requires : tie.Need-is-unshown-requires
 is-unshown-requires c κs = search needs
 
 returns : tie.Need-returns
-returns c = rw (sym (c .before .is-unshown .ensures) ∙ c .if1 .taken) (does-nothing refl)
+returns c = rw (sym (c .before .is-unshown .ensures) ∙ c .if1 .taken) (shows-nothing refl (rw (sym (c .before .is-unshown .ensures) ∙ c .if1 .taken) at (c .before .before .before .before .pre .1)))
 
 put-field-requires : tie.Need-put-field-requires
 put-field-requires c κs = (c .before .before .before .before .before .pre .0, rw (sym (c .before .before .is-unshown .ensures) ∙ c .before .if1 .left) at (c .before .before .before .before .before .pre .1))
