@@ -55,6 +55,17 @@ module _ (blank : ℕ → Bool) where
   space-append space [] t = refl
   space-append space (c ∷ s) t = space-append (blank c) s t
 
+  -- behind a blank, the leading blanks add nothing
+  pub collapse-behind : (s : Bytes) → collapseFrom blank true s ≡ collapseFrom blank false (trimStartBy blank s)
+  unfolding trimStartBy collapseFrom
+  collapse-behind [] = refl
+  collapse-behind (c ∷ s) = go (blank c) refl (collapse-behind s)
+    where
+      go : (b : Bool) → blank c ≡ b → collapseFrom blank true s ≡ collapseFrom blank false (trimStartBy blank s)
+          → squeezed b true c ++ collapseFrom blank b s ≡ collapseFrom blank false (cond b (trimStartBy blank s) (c ∷ s))
+      go true e h = h
+      go false e h = rw e
+
   pub collapse-from-length : (space : Bool) (s : Bytes) → length (collapseFrom blank space s) ≤ length s
   unfolding collapseFrom
   collapse-from-length space [] = omega arith

@@ -11,8 +11,8 @@ use lib.Seq.{drop-cons}
 use borrow.Author.Tests.{eqb-true, eq-eqb, ne-eqb}
 use Rattle.common.specs.Answer.{capped}
 use Rattle.common.specs.Bytes.{Bytes, codes}
-use Rattle.common.proofs.Choice.{by-cond, by-test}
-use Rattle.text.specs.Text.{escaped, escape}
+use Rattle.common.proofs.Choice.{by-cond, by-test, absurd-test}
+use Rattle.text.specs.Text.{isSpace, isAsciiWhitespace, escaped, escape}
 
 pub escape-append : (s t : Bytes) → escape (s ++ t) ≡ escape s ++ escape t
 unfolding escape
@@ -47,6 +47,15 @@ escaped-cases P a q l g other c =
     (λ n. by-test (eqb c 34) (λ e. rw (eqb-true c 34 e) q)
     (λ m. by-test (eqb c 60) (λ e. rw (eqb-true c 60 e) l)
     (λ k. by-test (eqb c 62) (λ e. rw (eqb-true c 62 e) g) (λ j. rw (n, m, k, j) (other c)))))
+
+-- a byte that is one byte as `escape` has it stands for itself
+pub escaped-single : (c : ℕ) → length (escaped c) ≡ 1 → escaped c ≡ c ∷ []
+unfolding codes
+escaped-single = escaped-cases (λ c s. length s ≡ 1 → s ≡ c ∷ []) (λ e. absurd (omega arith)) (λ e. absurd (omega arith)) (λ e. absurd (omega arith)) (λ e. absurd (omega arith)) (λ c e. refl)
+
+pub escaped-blank : (c : ℕ) → isSpace c ≡ true → escaped c ≡ c ∷ []
+unfolding isSpace isAsciiWhitespace
+escaped-blank = escaped-cases (λ c s. isSpace c ≡ true → s ≡ c ∷ []) (λ e. absurd-test e refl) (λ e. absurd-test e refl) (λ e. absurd-test e refl) (λ e. absurd-test e refl) (λ c e. refl)
 
 -- one to six bytes a character
 pub escaped-length : (c : ℕ) → (1 ≤ length (escaped c)) × (length (escaped c) ≤ 6)

@@ -41,7 +41,7 @@ pub fn rstrip(s: &[u8]) -> usize
 }
 
 // How many blanks stand in front.
-fn leading(s: &[u8]) -> usize
+pub fn leading(s: &[u8]) -> usize
     ensures { λ r. ⌜ (r ≤ length (now (s .entry))) × (drop r (now (s .entry)) ≡ trimStartBy isSpace (now (s .entry))) ⌝ }
 {
     let mut i = 0;
@@ -186,7 +186,7 @@ pub fn escaped_len(s: &[u8]) -> usize
 }
 
 // What a character adds to the escaped text, stored at at; the place past it.
-fn put_entity(out: &mut [u8], at: usize, b: u8) -> usize
+pub fn put_entity(out: &mut [u8], at: usize, b: u8) -> usize
     requires { ⌜ at + length (escaped b) ≤ length (now out) ⌝ }
     ensures { λ r. ⌜ Puts (now (out .entry)) at (escaped b) (now (out .exit)) r ⌝ }
 {

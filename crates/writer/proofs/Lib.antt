@@ -4,3 +4,5 @@ pub mod DoesLaws
 pub mod HeldLaws
 pub mod OutLaws
 pub mod ShownLaws
+pub mod SqueezedLaws
+pub mod TableLaws

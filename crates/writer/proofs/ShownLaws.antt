@@ -16,7 +16,7 @@ use Rattle.writer.specs.Shown.{collapsedIf, escapedIf, shown, shownByte}
 
 -- ---- a byte in front
 
-byte-plain : (blank space : Bool) (c : ℕ) → shownByte blank space false c ≡ squeezed blank space c
+pub byte-plain : (blank space : Bool) (c : ℕ) → shownByte blank space false c ≡ squeezed blank space c
 byte-plain true space c = refl
 byte-plain false space c = refl
 
@@ -50,7 +50,7 @@ pub shown-next : {blank : Bool} (squeeze space escapes : Bool) (s : Bytes) (i : 
     → shown squeeze space escapes (drop i s) ≡ shownByte blank space escapes (getD s i 0) ++ shown squeeze blank escapes (drop (i + 1) s)
 shown-next squeeze space escapes s i h e = rw (e, add-one, drop-cons s i 0 h) (shown-cons squeeze space escapes (getD s i 0) (drop (suc i) s))
 
-shown-nil : (squeeze space escapes : Bool) → shown squeeze space escapes [] ≡ []
+pub shown-nil : (squeeze space escapes : Bool) → shown squeeze space escapes [] ≡ []
 unfolding shown collapseFrom escape
 shown-nil true space true = refl
 shown-nil true space false = refl

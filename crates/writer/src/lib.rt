@@ -1,15 +1,20 @@
 // A text that is written into a lent buffer, or only measured.
-ghost use mathlib.Core.Bool.{true, _&&_};
+ghost use mathlib.Core.Bool.{true, false, cond, _&&_};
 ghost use mathlib.Core.List.{[], _∷_};
 ghost use mathlib.Core.Path.{_≡_};
 ghost use Prim.Native.Nat.{_+_, _≤_, _<_};
+ghost use lib.Dec.{eqb};
 ghost use lib.ListN.{length, replicate};
 ghost use Rattle.common.specs.Puts.{Puts};
-ghost use Rattle.text.specs.Text.{escape, escaped, isSpace};
+ghost use Rattle.text.specs.Text.{escape, escaped, isSpace, rstrip, squeezed};
 ghost use Rattle.writer.specs.Digits.{digits};
 ghost use Rattle.writer.specs.Out.{greater, pushAll};
 ghost use Rattle.writer.specs.Shown.{shown, shownByte};
+ghost use Rattle.writer.specs.Table.{ByteTable};
+ghost use Rattle.writer.specs.Behind.{Behind};
 ghost use Rattle.writer.specs.Writing.{Does, Ready, grown, stored, trimmed};
+
+pub mod table;
 
 // The text's length, its length without the blanks at its end, and the greatest length that it ever had.
 pub struct Writer {
@@ -185,7 +190,8 @@ fn is_squeezed(squeeze: bool, b: u8) -> bool
     false
 }
 
-fn put_shown(
+// A text, byte by byte.
+fn put_bytes(
     w: Writer,
     s: &[u8],
     squeeze: bool,
@@ -210,6 +216,120 @@ fn put_shown(
     q
 }
 
+// How many bytes a byte adds to a squeezed text, by whether it is a blank and whether one stood before it.
+fn added(table: &[u8; 768], b: u8, blank: u8, last: u8, escapes: bool) -> usize
+    requires { ⌜ (blank ≡ cond (isSpace b) 1 0) × (last ≤ 1) × ByteTable (now table) ⌝ }
+    ensures { λ r. ⌜ r ≡ length (shownByte (isSpace b) (eqb last 1) escapes b) ⌝ }
+{
+    let less = (blank & last) as usize;
+    if escapes {
+        return table::size(table, b) as usize - less;
+    }
+    1 - less
+}
+
+// The length of a squeezed text.
+fn squeezed_len(table: &[u8; 768], s: &[u8], escapes: bool) -> usize
+    requires { ⌜ (length (shown true false escapes (now s)) < 9223372036854775808) × ByteTable (now table) ⌝ }
+    ensures { λ r. ⌜ r ≡ length (shown true false escapes (now (s .entry))) ⌝ }
+{
+    let mut n = 0;
+    let mut last = 0;
+    let mut i = 0;
+    while i < s.len() {
+        let b = s[i];
+        let blank = table::blank(table, b);
+        n += added(table, b, blank, last, escapes);
+        last = blank;
+        i += 1;
+    }
+    n
+}
+
+// A byte of a squeezed text; the place past it. A blank behind a blank is stored where that one stands.
+fn store_squeezed(
+    table: &[u8; 768],
+    out: &mut [u8],
+    past: usize,
+    b: u8,
+    blank: u8,
+    last: u8,
+) -> usize
+    requires { ⌜ (blank ≡ cond (isSpace b) 1 0) × Behind last (now out) past × (past + length (squeezed (isSpace b) (eqb last 1) b) ≤ length (now out)) × ByteTable (now table) ⌝ }
+    ensures { λ r. ⌜ Puts (now (out .entry)) past (squeezed (isSpace b) (eqb last 1) b) (now (out .exit)) r × Behind blank (now (out .exit)) r ⌝ }
+{
+    let here = past + (1 - (blank & last) as usize);
+    out[here - 1] = table::squeezed(table, b);
+    here
+}
+
+// The same, escaped where asked.
+fn store_next(
+    table: &[u8; 768],
+    out: &mut [u8],
+    past: usize,
+    b: u8,
+    blank: u8,
+    last: u8,
+    escapes: bool,
+) -> usize
+    requires { ⌜ (blank ≡ cond (isSpace b) 1 0) × Behind last (now out) past × (past + length (shownByte (isSpace b) (eqb last 1) escapes b) ≤ length (now out)) × ByteTable (now table) ⌝ }
+    ensures { λ r. ⌜ Puts (now (out .entry)) past (shownByte (isSpace b) (eqb last 1) escapes b) (now (out .exit)) r × Behind blank (now (out .exit)) r ⌝ }
+{
+    if escapes {
+        if table::size(table, b) != 1 {
+            return text::put_entity(out, past, b);
+        }
+        return store_squeezed(table, out, past, b, blank, last);
+    }
+    store_squeezed(table, out, past, b, blank, last)
+}
+
+// A squeezed text to at and on; the place past it.
+fn store_shown(table: &[u8; 768], out: &mut [u8], at: usize, s: &[u8], escapes: bool) -> usize
+    requires { ⌜ (at + length (shown true false escapes (now s)) ≤ length (now out)) × ByteTable (now table) ⌝ }
+    ensures { λ r. ⌜ Puts (now (out .entry)) at (shown true false escapes (now (s .entry))) (now (out .exit)) r ⌝ }
+{
+    let mut past = at;
+    let mut last = 0;
+    let mut i = 0;
+    while i < s.len() {
+        let b = s[i];
+        let blank = table::blank(table, b);
+        past = store_next(table, out, past, b, blank, last, escapes);
+        last = blank;
+        i += 1;
+    }
+    past
+}
+
+// A squeezed text that does not end with a blank.
+fn put_bare(w: Writer, s: &[u8], escapes: bool, out: &mut [u8], write: bool) -> Writer
+    requires { ⌜ Ready write w (now out) (pushAll (shown true false escapes (now s))) × (rstrip (now s) ≡ now s) ⌝ }
+    ensures { λ r. ⌜ Does write w (now (out .entry)) r (now (out .exit)) (pushAll (shown true false escapes (now (s .entry)))) ⌝ }
+{
+    let table = table::bytes();
+    if write {
+        let n = store_shown(&table, out, w.len, s, escapes) - w.len;
+        return grown(w, n, n);
+    }
+    let n = squeezed_len(&table, s, escapes);
+    grown(w, n, n)
+}
+
+// A squeezed text. The table pays only where it is not short.
+fn put_squeezed(w: Writer, s: &[u8], escapes: bool, out: &mut [u8], write: bool) -> Writer
+    requires { ⌜ Ready write w (now out) (pushAll (shown true false escapes (now s))) ⌝ }
+    ensures { λ r. ⌜ Does write w (now (out .entry)) r (now (out .exit)) (pushAll (shown true false escapes (now (s .entry)))) ⌝ }
+{
+    if s.len() < 16 {
+        return put_bytes(w, s, true, false, escapes, out, write);
+    }
+    let n = text::rstrip(s);
+    let q = put_bare(w, &s[..n], escapes, out, write);
+    put_bytes(q, &s[n..], true, false, escapes, out, write)
+}
+
 // A text: its blanks squeezed where asked, as if one stood before it where `space`, and escaped where asked.
 pub fn put_text(
     w: Writer,
@@ -224,10 +344,14 @@ pub fn put_text(
     ensures { λ r. ⌜ Does write w (now (out .entry)) r (now (out .exit)) (pushAll (shown squeeze space escapes (now (s .entry)))) ⌝ }
 {
     if squeeze {
-        return put_shown(w, s, squeeze, space, escapes, out, write);
+        if space {
+            let from = text::leading(s);
+            return put_squeezed(w, &s[from..], escapes, out, write);
+        }
+        return put_squeezed(w, s, escapes, out, write);
     }
     if escapes {
-        return put_shown(w, s, squeeze, space, escapes, out, write);
+        return put_bytes(w, s, squeeze, space, escapes, out, write);
     }
     put(w, s, out, write)
 }
@@ -245,10 +369,10 @@ fn put_twice_byte(
     ensures { λ r. ⌜ Does write w (now (out .entry)) r (now (out .exit)) (pushAll (shown squeeze space true (escaped b))) ⌝ }
 {
     match b {
-        38 => put_shown(w, b"&amp;", squeeze, space, true, out, write),
-        34 => put_shown(w, b"&quot;", squeeze, space, true, out, write),
-        60 => put_shown(w, b"&lt;", squeeze, space, true, out, write),
-        62 => put_shown(w, b"&gt;", squeeze, space, true, out, write),
+        38 => put_bytes(w, b"&amp;", squeeze, space, true, out, write),
+        34 => put_bytes(w, b"&quot;", squeeze, space, true, out, write),
+        60 => put_bytes(w, b"&lt;", squeeze, space, true, out, write),
+        62 => put_bytes(w, b"&gt;", squeeze, space, true, out, write),
         _ => put_byte(w, b, is_squeezed(squeeze, b), space, true, out, write),
     }
 }

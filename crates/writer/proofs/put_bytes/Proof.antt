@@ -1,4 +1,4 @@
--- `put_shown` meets its contract.
+-- `put_bytes` meets its contract.
 use Prim.Native.Nat.{_-_, _≤_}
 use native.Mathlib.Omega.{arith}
 use lib.ListN.{length, drop}
@@ -6,8 +6,8 @@ use Rattle.writer.specs.Shown.{shown}
 use Rattle.writer.proofs.DoesLaws.{Going, going-start, going-more, going-ready, going-end, going-length}
 use Rattle.writer.proofs.ShownLaws.{shown-next, shown-done}
 use borrow.Author.Needs.{needs}
-use Rattle.writer.proofs.put_shown.Statement.{statement}
-use Rattle.writer.proofs.put_shown.Tie as tie
+use Rattle.writer.proofs.put_bytes.Statement.{statement}
+use Rattle.writer.proofs.put_bytes.Tie as tie
 
 abbrev Inv-loop : tie.InvT-loop
 Inv-loop s squeeze space escapes out₀ write q₀ last₀ i₀ out q last i = (i ≤ length s) × Going write q₀ out₀ (shown squeeze space escapes s) q out (shown squeeze last escapes (drop i s))
@@ -43,8 +43,8 @@ same-length c = going-length (c .before .loop .inv .1) (c .before .before .befor
 returns : tie.Need-returns Inv-loop μ-loop
 returns c = going-end (c .before .loop .inv .1) (shown-done _ _ _ _ _ (c .loop-test .left))
 
-pub put-shown-spec : {M : Type 1} → statement M
-put-shown-spec =
+pub put-bytes-spec : {M : Type 1} → statement M
+put-bytes-spec =
     tie.close
     (tie.spec
     Inv-loop

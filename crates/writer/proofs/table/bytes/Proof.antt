@@ -1,0 +1,13 @@
+-- `table::bytes` meets its contract.
+use Rattle.common.specs.Bytes.{codes}
+use Rattle.text.specs.Text.{escaped, isSpace, isAsciiWhitespace}
+use Rattle.writer.proofs.TableLaws.{byteNumbers, bytes-are}
+use Rattle.writer.proofs.table.bytes.Statement.{statement}
+use Rattle.writer.proofs.table.bytes.Tie as tie
+
+returns : tie.Need-returns
+unfolding byteNumbers isSpace isAsciiWhitespace escaped codes
+returns c = bytes-are
+
+pub bytes-spec : {M : Type 1} → statement M
+bytes-spec = tie.close (tie.spec returns)
