@@ -48,7 +48,7 @@ fn more_digits(s: &[u8], at: usize, end: usize, n: usize) -> Field
 }
 
 // The number in the width columns at at: spaces, then its digits; nothing follows a 0.
-pub fn read_field(s: &[u8], at: usize, width: usize) -> Field
+fn read_columns(s: &[u8], at: usize, width: usize) -> Field
     requires { ⌜ (at + width ≤ length (now s)) × (width ≤ 19) ⌝ }
     ensures { λ r. ⌜ r ≡ fieldOf (take width (drop at (now (s .entry)))) ⌝ }
 {
@@ -72,4 +72,34 @@ pub fn read_field(s: &[u8], at: usize, width: usize) -> Field
         return Field::Bad;
     }
     more_digits(s, next, end, (b - 48) as usize)
+}
+
+// The number in the eight columns at at: most have one digit, behind seven spaces.
+fn read_eight(s: &[u8], at: usize) -> Field
+    requires { ⌜ at + 8 ≤ length (now s) ⌝ }
+    ensures { λ r. ⌜ r ≡ fieldOf (take 8 (drop at (now (s .entry)))) ⌝ }
+{
+    let w = common::word_at(s, at);
+    if w % 0x100000000000000 != 0x20202020202020 {
+        return read_columns(s, at, 8);
+    }
+    let b = w / 0x100000000000000;
+    if b < 48 {
+        return Field::Bad;
+    }
+    if b > 57 {
+        return Field::Bad;
+    }
+    Field::Number(b - 48)
+}
+
+// The number in the width columns at at.
+pub fn read_field(s: &[u8], at: usize, width: usize) -> Field
+    requires { ⌜ (at + width ≤ length (now s)) × (width ≤ 19) ⌝ }
+    ensures { λ r. ⌜ r ≡ fieldOf (take width (drop at (now (s .entry)))) ⌝ }
+{
+    if width == 8 {
+        return read_eight(s, at);
+    }
+    read_columns(s, at, width)
 }
