@@ -1,19 +1,20 @@
 -- Eight columns by the word of them.
-use mathlib.Core.Path.{_≡_, refl, sym, ap, ap₂, _∙_}
-use mathlib.Core.Bool.{Bool, true, false, cond}
+use mathlib.Core.Path.{_≡_, refl, sym, ap, _∙_}
 use mathlib.Core.List.{[], _∷_}
 use Prim.Native.Nat.{ℕ, suc, _+_, _-_, _*_, _/_, _%_, _≤_, _<_}
 use native.Mathlib.Omega.{arith}
 use lib.Dec.{ltb, eqb}
-use lib.ListN.{length, getD, take, drop}
+use lib.ListN.{length, getD, take, drop, length-take}
 use lib.Seq.{drop-cons}
 use borrow.Author.Tests.{le-ltb, lt-ltb, ne-eqb}
 use Rattle.common.specs.Bytes.{Bytes}
 use Rattle.common.specs.Word.{wordAt}
 use Rattle.common.proofs.Choice.{by-cond}
 use Rattle.sheet.specs.Columns.{Columns, Blank, Value, Broken, ifDigit, nextColumn, columnsFrom, finish, fieldOf}
+use Rattle.sheet.specs.Reading.{inEight}
 use Rattle.sheet.specs.declared.field.Field.{Field}
 use Rattle.sheet.specs.declared.field.Field.the-variants.{Number, Bad}
+use Rattle.sheet.proofs.ColumnsLaws.{field-below}
 
 -- ---- the bytes one by one
 
@@ -70,3 +71,20 @@ module _ (s : Bytes) (octets : (k : ℕ) → getD s k 0 < 256) (at : ℕ) (long 
 
     pub last-digit : last ≤ 57 → Number (last - 48) ≡ fieldOf (take 8 (drop at s))
     last-digit h = let q : nextColumn Blank last ≡ Value (last - 48) = rw (ne-eqb last 32 not-space, le-ltb last 48 low, le-ltb 57 last h) in sym (field-last ∙ ap finish q)
+
+-- ---- as one number
+
+number-of : (f : Field) (n : ℕ) → n ≡ inEight f → n ≤ 99999999 → f ≡ Number n
+number-of (Number m) n e h = ap Number (sym e)
+number-of Bad n e h = absurd (omega arith)
+
+none-of : (t : Bytes) → length t ≤ 8 → (f : Field) → fieldOf t ≡ f → (n : ℕ) → n ≡ inEight f → 99999999 < n → f ≡ Bad
+none-of t l (Number m) q n e h = absurd (omega (arith, field-below t 8 l m q))
+none-of t l Bad q n e h = refl
+
+module _ (s : Bytes) (at n : ℕ) (e : n ≡ inEight (fieldOf (take 8 (drop at s)))) where
+  pub eight-number : n ≤ 99999999 → fieldOf (take 8 (drop at s)) ≡ Number n
+  eight-number h = number-of (fieldOf (take 8 (drop at s))) n e h
+
+  pub eight-none : 99999999 < n → fieldOf (take 8 (drop at s)) ≡ Bad
+  eight-none h = none-of (take 8 (drop at s)) (omega (arith, length-take 8 (drop at s))) (fieldOf (take 8 (drop at s))) refl n e h
