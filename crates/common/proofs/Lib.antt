@@ -5,3 +5,4 @@ pub mod Every
 pub mod Parts
 pub mod Puts
 pub mod TestLaws
+pub mod Words

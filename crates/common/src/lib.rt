@@ -1,10 +1,11 @@
 // Byte strings: stored into a lent buffer, and compared; an answer in numbers.
 ghost use mathlib.Core.List.{_++_};
 ghost use mathlib.Core.Path.{_≡_};
-ghost use Prim.Native.Nat.{_+_, _-_, _≤_};
+ghost use Prim.Native.Nat.{_+_, _-_, _<_, _≤_};
 ghost use lib.ListN.{drop, length, replicate, take};
 ghost use Rattle.common.specs.Bytes.{same};
 ghost use Rattle.common.specs.Puts.{Puts};
+ghost use Rattle.common.specs.Word.{wordAt};
 
 // What a call says in document 01's numbers; C reads it as it stands.
 #[repr(C)]
@@ -61,4 +62,33 @@ pub fn same(s: &[u8], t: &[u8]) -> bool
         i += 1;
     }
     true
+}
+
+fn wide(b: u8) -> usize
+    ensures { λ r. ⌜ (r ≡ b) × (r < 256) ⌝ }
+{
+    b as usize
+}
+
+// The eight bytes at at as one number, the first the lowest. In this form LLVM makes one load of it.
+pub fn word_at(s: &[u8], at: usize) -> usize
+    requires { ⌜ at + 8 ≤ length (now s) ⌝ }
+    ensures { λ r. ⌜ r ≡ wordAt (now (s .entry)) at ⌝ }
+{
+    let a = wide(s[at]);
+    let b = wide(s[at + 1]);
+    let c = wide(s[at + 2]);
+    let d = wide(s[at + 3]);
+    let e = wide(s[at + 4]);
+    let f = wide(s[at + 5]);
+    let g = wide(s[at + 6]);
+    let h = wide(s[at + 7]);
+    a
+        | b * 0x100
+        | c * 0x10000
+        | d * 0x1000000
+        | e * 0x100000000
+        | f * 0x10000000000
+        | g * 0x1000000000000
+        | h * 0x100000000000000
 }

@@ -2,6 +2,7 @@ pub mod Acceptance
 pub mod AttributePass
 pub mod ColumnsLaws
 pub mod DigitLaws
+pub mod EightColumns
 pub mod FirstWrong
 pub mod Header
 pub mod Judging

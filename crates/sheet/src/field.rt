@@ -3,7 +3,7 @@ ghost use mathlib.Core.Path.{_≡_};
 ghost use Prim.Native.Nat.{_+_, _-_, _^_, _<_, _≤_};
 ghost use lib.ListN.{drop, length, take};
 ghost use Rattle.sheet.specs.Columns.{Value, columnsFrom, fieldOf, finish};
-ghost use Rattle.sheet.specs.Reading.{Spaces};
+ghost use Rattle.sheet.specs.Reading.{Spaces, inEight};
 
 // What columns hold.
 pub enum Field {
@@ -72,4 +72,34 @@ pub fn read_field(s: &[u8], at: usize, width: usize) -> Field
         return Field::Bad;
     }
     more_digits(s, next, end, (b - 48) as usize)
+}
+
+// The number in the eight columns at at, or 10 ^ 8: a number in a register.
+fn eight_columns(s: &[u8], at: usize) -> usize
+    requires { ⌜ at + 8 ≤ length (now s) ⌝ }
+    ensures { λ r. ⌜ r ≡ inEight (fieldOf (take 8 (drop at (now (s .entry))))) ⌝ }
+{
+    match read_field(s, at, 8) {
+        Field::Number(n) => n,
+        Field::Bad => 100000000,
+    }
+}
+
+// The same, by one look where there is one digit behind seven spaces, as in most columns.
+pub fn read_eight(s: &[u8], at: usize) -> usize
+    requires { ⌜ at + 8 ≤ length (now s) ⌝ }
+    ensures { λ r. ⌜ r ≡ inEight (fieldOf (take 8 (drop at (now (s .entry))))) ⌝ }
+{
+    let w = common::word_at(s, at);
+    if w % 0x100000000000000 != 0x20202020202020 {
+        return eight_columns(s, at);
+    }
+    let b = w / 0x100000000000000;
+    if b < 48 {
+        return 100000000;
+    }
+    if b > 57 {
+        return 100000000;
+    }
+    b - 48
 }

@@ -1,5 +1,6 @@
 // The lines of a sheet.
 use crate::field::Field;
+use crate::field::read_eight;
 use crate::field::read_field;
 ghost use mathlib.Core.Path.{_≡_};
 ghost use Prim.Native.Nat.{_+_, _*_, _≤_, _<_};
@@ -53,7 +54,7 @@ pub enum NodeLine {
     Bad,
 }
 
-pub fn read_four(s: &[u8], at: usize, width: usize) -> Four
+fn four_columns(s: &[u8], at: usize, width: usize) -> Four
     requires { ⌜ (at + 4 * width ≤ length (now s)) × (width ≤ 19) ⌝ }
     ensures { λ r. ⌜ r ≡ fourOf width (now (s .entry)) at ⌝ }
 {
@@ -78,6 +79,48 @@ pub fn read_four(s: &[u8], at: usize, width: usize) -> Four
         third,
         fourth,
     })
+}
+
+// Four numbers in eight columns each.
+fn four_eights(s: &[u8], at: usize) -> Four
+    requires { ⌜ at + 32 ≤ length (now s) ⌝ }
+    ensures { λ r. ⌜ r ≡ fourOf 8 (now (s .entry)) at ⌝ }
+{
+    let first = read_eight(s, at);
+    if first > 99999999 {
+        return Four::Bad;
+    }
+    let at1 = at + 8;
+    let second = read_eight(s, at1);
+    if second > 99999999 {
+        return Four::Bad;
+    }
+    let at2 = at1 + 8;
+    let third = read_eight(s, at2);
+    if third > 99999999 {
+        return Four::Bad;
+    }
+    let at3 = at2 + 8;
+    let fourth = read_eight(s, at3);
+    if fourth > 99999999 {
+        return Four::Bad;
+    }
+    Four::Numbers(Quad {
+        first,
+        second,
+        third,
+        fourth,
+    })
+}
+
+pub fn read_four(s: &[u8], at: usize, width: usize) -> Four
+    requires { ⌜ (at + 4 * width ≤ length (now s)) × (width ≤ 19) ⌝ }
+    ensures { λ r. ⌜ r ≡ fourOf width (now (s .entry)) at ⌝ }
+{
+    if width == 8 {
+        return four_eights(s, at);
+    }
+    four_columns(s, at, width)
 }
 
 // Four numbers and LF: the header, or an attribute line.
