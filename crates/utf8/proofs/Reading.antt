@@ -9,7 +9,7 @@ use lib.ListN.{length, drop, getD, length-drop, length-replicate, replicate, dro
 use lib.Seq.{drop-cons}
 use borrow.Author.Tests.{le-leb, lt-leb, leb-true}
 use Rattle.common.specs.Bytes.{Bytes}
-use Rattle.common.proofs.Every.{every, every-at}
+use Rattle.common.proofs.Every.{every-at}
 use Rattle.utf8.specs.Abnf.{Range, %x_-_, UTF8-tail, UTF8-char}
 use Rattle.utf8.specs.State.{expectedRanges, Ascii, Passed}
 use Rattle.utf8.specs.Valid.{within, follow, expect, valid}
