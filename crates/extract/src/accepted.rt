@@ -49,7 +49,7 @@ fn extract_columns(
     let nodes = l.nodes;
     read_rows(s, l, depths, tags, attributes, values, lengths, left);
     let column = &depths[..nodes];
-    decide(s, l, o, column, tags, attributes, left);
+    decide(s, l, o, column, tags, attributes, left, stack);
     let names = names_need(s, l, o);
     extract_rows(
         o,

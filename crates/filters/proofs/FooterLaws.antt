@@ -3,7 +3,7 @@ use mathlib.Core.Path.{_≡_, refl, sym, ap, _∙_}
 use mathlib.Core.Bool.{Bool, true, false, _||_}
 use mathlib.Core.List.{List}
 use mathlib.Core.Option.{Option, none, some}
-use Prim.Native.Nat.{ℕ, zero, suc, _+_, _≤_, _<_}
+use Prim.Native.Nat.{ℕ, zero, suc, _-_, _≤_, _<_}
 use native.Mathlib.Omega.{arith}
 use lib.ListN.{length, getD, drop}
 use Rattle.common.proofs.Choice.{by-test}
@@ -15,9 +15,9 @@ use Rattle.tree.specs.Forest.{child}
 use Rattle.tree.specs.Node.{Node}
 use Rattle.tree.specs.Rows.{WellFormed, nextSiblingOf, pastFrom, pastOf}
 use Rattle.tree.proofs.Descendants.{descendant-is}
-use Rattle.tree.proofs.PastLaws.{past-of-low, past-of-high, past-inside, past-at, past-is, past-skip, past-some, past-none}
-use Rattle.tree.proofs.Scans.{above-found}
-use Rattle.filters.specs.Footer.{isSome, isBody, isNotText, bodyFrom, bodyAbove, contentFollows, followedFrom, followed}
+use Rattle.tree.proofs.PastLaws.{past-of-high, past-inside, past-at, past-is, past-skip, above-skip, past-some, past-none}
+use Rattle.tree.proofs.Scans.{above-found, above-suc-more}
+use Rattle.filters.specs.Footer.{Above, isSome, isBody, isNotText, bodyFrom, bodyAbove, contentFollows, followedFrom, followed}
 
 -- ---- rows that are found
 
@@ -69,22 +69,15 @@ module _ (nodeOf : ℕ → Node) (depths : List ℕ) where
 
   -- ---- the loop over a footer's parents
 
-  follows-top : (d row : ℕ) → parentOf depths row ≡ none → followedFrom nodeOf depths d row ≡ false
-  unfolding followedFrom
-  follows-top zero row p = refl
-  follows-top (suc d) row p = rw (p, followedFrom)
-
   follows-body : (d row above : ℕ) → parentOf depths row ≡ some above → isBody (nodeOf above) ≡ true → followedFrom nodeOf depths d row ≡ false
   unfolding followedFrom
   follows-body zero row above p e = refl
   follows-body (suc d) row above p e = rw (p, e, followedFrom)
 
   module _ (i row : ℕ) (w : followed nodeOf depths row ≡ followed nodeOf depths i) where
-    pub follow-none : parentOf depths row ≡ none → false ≡ followed nodeOf depths i
-    follow-none p = sym (follows-top (getD depths row 0) row p) ∙ w
-
-    pub follow-end : row ≤ 0 → false ≡ followed nodeOf depths i
-    follow-end h = let z : row ≡ 0 = omega arith in follow-none (ap (parentOf depths) z)
+    pub follow-end : getD depths row 0 ≤ 0 → false ≡ followed nodeOf depths i
+    unfolding followedFrom
+    follow-end h = let z : getD depths row 0 ≡ 0 = omega arith in sym (ap (λ (d : ℕ). followedFrom nodeOf depths d row) z) ∙ w
 
     module _ (above : ℕ) (p : parentOf depths row ≡ some above) where
       pub follow-body : isBody (nodeOf above) ≡ true → false ≡ followed nodeOf depths i
@@ -110,6 +103,46 @@ module _ (nodeOf : ℕ → Node) (depths : List ℕ) where
     pub sibling-behind : end < length depths → getD depths end 0 ≡ getD depths row 0 → {r : Bool} → r ≡ (isNotText (nodeOf end) || isSome (nextSiblingOf depths end)) → r ≡ contentFollows nodeOf depths (nextSiblingOf depths row)
     sibling-behind h e q = q ∙ rw (past-some depths (getD depths row 0) (suc row) end end-is h e)
 
+module _ (depths : List ℕ) (j k : ℕ) (h : j < length depths) (low : j < k) (high : k ≤ pastOf depths j) where
+  -- the first row past row j, from a row below it on
+  past-from-below : pastFrom (getD depths j 0) k (drop k depths) ≡ pastOf depths j
+  past-from-below =
+      past-is depths (getD depths j 0) k (pastOf depths j) high (past-of-high depths j h)
+      (λ i l m. past-inside depths (getD depths j 0) (suc j) i (omega arith) m)
+      (λ g. past-at depths (getD depths j 0) (suc j) g)
+
+  -- a row that is less deep than row j is the last before row k if it is the last before row j
+  above-same : (e : ℕ) → e ≤ getD depths j 0 → lastAbove depths e k ≡ lastAbove depths e j
+  above-same e g =
+      sym (above-skip depths (getD depths j 0) e (omega arith) k)
+      ∙ ap (lastAbove depths e) past-from-below
+      ∙ above-skip depths (getD depths j 0) e (omega arith) (suc j)
+      ∙ above-suc-more depths e j (getD depths j 0) refl (omega arith)
+
+-- ---- the rows above a row, by their depths
+
+module _ (depths : List ℕ) (row : ℕ) {stack : List ℕ} {d : ℕ} (a : Above depths row stack) (d-is : d ≡ getD depths row 0) (deep : 0 < d) where
+  pub above-inside : d - 1 < length stack
+  above-inside = omega (arith, a .long)
+
+  pub above-parent : parentOf depths row ≡ some (getD stack (d - 1) 0)
+  above-parent =
+      let e : getD depths row 0 ≡ suc (d - 1) = omega arith in
+      ap (λ (x : ℕ). lastAbove depths x row) e ∙ a .row (d - 1) (omega arith)
+
+  pub above-depth : d - 1 ≡ getD depths (getD stack (d - 1) 0) 0
+  above-depth = omega (arith, above-found depths (getD depths row 0) row (getD stack (d - 1) 0) above-parent .1)
+
+  pub above-up : WellFormed depths → row < length depths → Above depths (getD stack (d - 1) 0) stack
+  above-up w h =
+      let above = getD stack (d - 1) 0 in
+      let before = parent-before depths row above above-parent in
+      let inside = descendant-is depths w above (omega arith) row .0 (child above-parent) in
+      record {
+        long = omega (arith, above-depth, a .long);
+        row = λ x g. sym (above-same depths above row (omega arith) before (omega (arith, inside .1)) (suc x) g) ∙ a .row x (omega (arith, above-depth));
+      }
+
 -- the first row past a row, from the first row past a child of it
 pub past-above : (depths : List ℕ) → WellFormed depths → (row above : ℕ) → above < length depths → parentOf depths row ≡ some above → {end : ℕ} → end ≡ pastOf depths row
     → pastFrom (getD depths above 0) end (drop end depths) ≡ pastOf depths above
@@ -118,7 +151,4 @@ past-above depths w row above h p {end} end-is =
     let d = getD depths row 0 in
     let inside = descendant-is depths w above h row .0 (child p) in
     let less : e ≤ d = omega (arith, above-found depths d row above p .1) in
-    let from-row = past-is depths e (suc row) (pastOf depths above) (inside .1) (past-of-high depths above h)
-    (λ i low high. past-inside depths e (suc above) i (omega (arith, inside .0)) high)
-    (λ g. past-at depths e (suc above) g) in
-    rw end-is (sym (past-skip depths d e less (suc row)) ∙ from-row)
+    rw end-is (sym (past-skip depths d e less (suc row)) ∙ past-from-below depths above (suc row) h (omega (arith, inside .0)) (inside .1))

@@ -1,10 +1,11 @@
 -- The rows above a row: the nearest body, and the loop over the parents of a footer (`is_main_content` of filters.rs, `extract_plain_text` of html2text.rs).
+use mathlib.Core.Path.{_≡_}
 use mathlib.Core.Bool.{Bool, true, false, _||_}
 use mathlib.Core.List.{List}
 use mathlib.Core.Option.{Option, none, some}
-use Prim.Native.Nat.{ℕ, zero, suc}
-use lib.ListN.{getD}
-use Rattle.sheet.specs.Column.{parentOf}
+use Prim.Native.Nat.{ℕ, zero, suc, _≤_, _<_}
+use lib.ListN.{length, getD}
+use Rattle.sheet.specs.Column.{lastAbove, parentOf}
 use Rattle.tags.specs.Words.{is}
 use Rattle.tree.specs.Node.{element, text, comment, Node, tag}
 use Rattle.tree.specs.Rows.{nextSiblingOf}
@@ -21,6 +22,11 @@ isBody n = is (tag n) "body"
 -- `node.node_type() != Some(NodeType::Text)`
 unfoldable pub isNotText : Node → Bool
 isNotText n = elim (n .kind) [ element ↦ true | text ↦ false | comment ↦ true ]
+
+-- The rows that row i stands in, by their depths: stack[d] is the last row at depth d before row i, for each d less than the depth of row i.
+pub record Above (depths : List ℕ) (i : ℕ) (stack : List ℕ) : Type 0 where
+  pub long : getD depths i 0 ≤ length stack
+  pub row : (d : ℕ) → d < getD depths i 0 → lastAbove depths (suc d) i ≡ some (getD stack d 0)
 
 module _ (nodeOf : ℕ → Node) (depths : List ℕ) where
   -- `while tag(&parent) != "body"`, with so many rows above row i

@@ -14,7 +14,7 @@ ghost use Rattle.sheet.specs.Layout.{depths};
 ghost use Rattle.tags.specs.Tags.{tagOf};
 ghost use Rattle.tags.specs.Words.{is};
 ghost use Rattle.tree.specs.Page.{nodeAt};
-ghost use Rattle.filters.specs.Footer.{followed};
+ghost use Rattle.filters.specs.Footer.{Above, followed};
 ghost use Rattle.filters.specs.Sheet.{clusterAt};
 
 fn near_or_cluster(s: &[u8], l: Layout, i: usize, depth: usize, bound: usize) -> bool
@@ -28,14 +28,14 @@ fn near_or_cluster(s: &[u8], l: Layout, i: usize, depth: usize, bound: usize) ->
 }
 
 // A footer's answer.
-pub fn footer(s: &[u8], l: Layout, i: usize, depth: usize) -> bool
-    requires { ⌜ Accepted (now s) l × (i < l .nodes) ⌝ }
+pub fn footer(s: &[u8], l: Layout, i: usize, depth: usize, stack: &[usize]) -> bool
+    requires { ⌜ Accepted (now s) l × (i < l .nodes) × Above (depths (now s) l) i (now stack) ⌝ }
     ensures { λ r. ⌜ r ≡ cond (ltb depth 3 || clusterAt (now (s .entry)) l i fifthOfAny) false (followed (nodeAt (now (s .entry)) l) (depths (now (s .entry)) l) i) ⌝ }
 {
     if near_or_cluster(s, l, i, depth, 3) {
         return false;
     }
-    followed(s, l, i)
+    followed(s, l, i, stack)
 }
 
 pub fn ul_cluster(s: &[u8], l: Layout, i: usize, tag: u8, depth: usize) -> bool

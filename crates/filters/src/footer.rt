@@ -14,7 +14,7 @@ ghost use Rattle.sheet.specs.Accepted.{Accepted};
 ghost use Rattle.sheet.specs.Layout.{depths};
 ghost use Rattle.tree.specs.Page.{nodeAt};
 ghost use Rattle.tree.specs.Rows.{nextSiblingOf, pastFrom, pastOf};
-ghost use Rattle.filters.specs.Footer.{bodyAbove, contentFollows, followed, isBody, isSome};
+ghost use Rattle.filters.specs.Footer.{Above, bodyAbove, contentFollows, followed, isBody, isSome};
 
 fn is_body(s: &[u8], l: Layout, i: usize) -> bool
     requires { ⌜ Accepted (now s) l × (i < l .nodes) ⌝ }
@@ -90,24 +90,24 @@ fn content_follows(s: &[u8], l: Layout, row: usize, end: usize) -> bool
     has_next(s, l, end)
 }
 
-// The loop over a footer's parents.
-pub fn followed(s: &[u8], l: Layout, i: usize) -> bool
-    requires { ⌜ Accepted (now s) l × (i < l .nodes) ⌝ }
+// The loop over a footer's parents, which stand in `stack` by their depths.
+pub fn followed(s: &[u8], l: Layout, i: usize, stack: &[usize]) -> bool
+    requires { ⌜ Accepted (now s) l × (i < l .nodes) × Above (depths (now s) l) i (now stack) ⌝ }
     ensures { λ r. ⌜ r ≡ followed (nodeAt (now (s .entry)) l) (depths (now (s .entry)) l) i ⌝ }
 {
     let mut row = i;
+    let mut depth = depth_at(s, l, i);
     let mut end = past(s, l, i);
-    while row > 0 {
-        let Found::At(above) = parent(s, l, row) else {
-            return false;
-        };
+    while depth > 0 {
+        depth -= 1;
+        let above = stack[depth];
         if is_body(s, l, above) {
             return false;
         }
         if content_follows(s, l, row, end) {
             return true;
         }
-        end = past_from(s, l, depth_at(s, l, above), end);
+        end = past_from(s, l, depth, end);
         row = above;
     }
     false

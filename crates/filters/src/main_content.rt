@@ -44,6 +44,7 @@ ghost use Rattle.tree.specs.Node.{Attribute};
 ghost use Rattle.tree.specs.Page.{nodeAt};
 ghost use Rattle.filters.specs.Classes.{Joinable, Tables};
 ghost use Rattle.filters.specs.Filters.{byAttributes, byBlock, byClassAndId, byName, isMainContent, logoOrAd};
+ghost use Rattle.filters.specs.Footer.{Above};
 ghost use Rattle.filters.specs.Gathered.{Gathered, Readable};
 ghost use Rattle.filters.specs.Sheet.{clusterAt, tagNumber};
 
@@ -231,8 +232,9 @@ fn by_name(
     first: usize,
     count: usize,
     depth: usize,
+    stack: &[usize],
 ) -> bool
-    requires { ⌜ Tables (now steps) (now masks) × Accepted (now s) l × (i < l .nodes) × (tag ≡ tagOf (now name)) × (first + count ≤ l .attributes) ⌝ }
+    requires { ⌜ Tables (now steps) (now masks) × Accepted (now s) l × (i < l .nodes) × (tag ≡ tagOf (now name)) × (first + count ≤ l .attributes) × Above (depths (now s) l) i (now stack) ⌝ }
     ensures { λ r. ⌜ r ≡ byName (nodeAt (now (s .entry)) l) (depths (now (s .entry)) l) o i depth (now (name .entry)) (attributesFrom (now (s .entry)) l first count) ⌝ }
 {
     if is_kept(name, tag) {
@@ -240,7 +242,7 @@ fn by_name(
     }
     // footer
     if tag == 28 {
-        return footer(s, l, i, depth);
+        return footer(s, l, i, depth, stack);
     }
     if ul_cluster(s, l, i, tag, depth) {
         return false;
@@ -269,7 +271,7 @@ fn by_name(
     )
 }
 
-// Row i, with the number of its tag, its first attribute line and its depth below body.
+// Row i, with the number of its tag, its first attribute line, its depth below body and the rows that it stands in.
 pub fn is_main_content(
     steps: &[u16; 2059],
     masks: &[u32; 4352],
@@ -280,8 +282,9 @@ pub fn is_main_content(
     tag: u8,
     first: usize,
     depth: usize,
+    stack: &[usize],
 ) -> bool
-    requires { ⌜ Tables (now steps) (now masks) × Accepted (now s) l × (i < l .nodes) × (tag ≡ tagNumber (now s) l i) × (first ≡ countsFrom (now s) l 0 i) ⌝ }
+    requires { ⌜ Tables (now steps) (now masks) × Accepted (now s) l × (i < l .nodes) × (tag ≡ tagNumber (now s) l i) × (first ≡ countsFrom (now s) l 0 i) × Above (depths (now s) l) i (now stack) ⌝ }
     ensures { λ r. ⌜ r ≡ isMainContent (nodeAt (now (s .entry)) l) (depths (now (s .entry)) l) o i depth ⌝ }
 {
     let row = row_at(s, l, i);
@@ -303,5 +306,6 @@ pub fn is_main_content(
         first,
         row.attributes,
         depth,
+        stack,
     )
 }

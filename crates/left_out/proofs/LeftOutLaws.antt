@@ -9,7 +9,7 @@ use lib.ListN.{length, getD, take}
 use Rattle.common.specs.Bytes.{Bytes}
 use Rattle.common.proofs.Choice.{by-test}
 use Rattle.filters.specs.Filters.{filtered, filterDepth, isMainContent}
-use Rattle.filters.specs.Footer.{isBody, bodyFrom, bodyAbove}
+use Rattle.filters.specs.Footer.{Above, isBody, bodyFrom, bodyAbove}
 use Rattle.html2text.specs.Extract.{hidden}
 use Rattle.html2text.specs.Walk.{isComment, leftOut, treeOf}
 use Rattle.options.specs.declared.ExtractOptions.{ExtractOptions}
@@ -17,15 +17,18 @@ use Rattle.sheet.specs.Accepted.{Accepted}
 use Rattle.sheet.specs.Column.{parentOf}
 use Rattle.sheet.specs.Layout.{depths}
 use Rattle.sheet.specs.declared.line.Layout.{Layout}
-use Rattle.sheet.proofs.LayoutLaws.{depths-from-length}
+use Rattle.sheet.proofs.LayoutLaws.{depths-at, depths-from-length}
 use Rattle.tree.specs.Node.{Node}
 use Rattle.tree.specs.Page.{nodeAt, pageOf}
+use Rattle.tree.specs.Rows.{WellFormed}
+use Rattle.tree.proofs.Column.{depth-small}
 use Rattle.tree.proofs.Scans.{above-found}
+use Rattle.tree.proofs.SheetColumn.{well-formed}
 use Rattle.walk.specs.Rows.{Columns, RowsRead}
 use Rattle.walk.specs.Turns.{Agree, flagged, treeAt}
 use Rattle.walk.proofs.RowLaws.{column-is}
 use Rattle.walk.proofs.WalkLaws.{agree-tree}
-use Rattle.left_out.specs.LeftOut.{commentOrMarked, leftOutAt, LeftOutRows, bodyDepth, Noted, MarksNoted, Undecided}
+use Rattle.left_out.specs.LeftOut.{Fits, commentOrMarked, leftOutAt, LeftOutRows, bodyDepth, Noted, MarksNoted, Undecided}
 
 -- ---- the nearest body stands no later and no deeper
 
@@ -77,15 +80,27 @@ module _ {s : Bytes} {l : Layout} {column tags attributes : List ℕ} (n : Noted
   pub rows-are : length column ≡ l .nodes
   rows-are = ap length (n .depths-are) ∙ depths-from-length s l 0 (l .nodes)
 
+  pub column-well-formed : WellFormed column
+  column-well-formed = rw (n .depths-are) (well-formed (n .accepted))
+
+  -- no row is deeper than 500
+  pub column-fits : (stack : List ℕ) → 500 < length stack → Fits column stack
+  column-fits stack h =
+      record {
+        place = λ i m.
+            let k : i < l .nodes = omega (arith, rows-are) in
+            omega (arith, ap (λ (c : List ℕ). getD c i 0) (n .depths-are), depths-at s l i k, depth-small s l (n .accepted) i k);
+      }
+
   body-of-root : (bodyAbove (nodeAt s l) (depths s l) (l .root) ≤ l .root) × (bodyDepth s l ≤ getD (depths s l) (l .root) 0)
   body-of-root = body-near (nodeAt s l) (depths s l) (getD (depths s l) (l .root) 0) (l .root)
 
   pub body-inside : {body : ℕ} → body ≡ bodyAbove (nodeAt s l) (depths s l) (l .root) → body < length column
   body-inside e = omega (arith, e, body-of-root .0, rows-are, n .accepted .sized .root)
 
-  pub undecided : {o : ExtractOptions} {base k : ℕ} {left : List Bool} → o .«main_content» ≡ true → base ≡ bodyDepth s l → k < length column → getD column (l .root) 0 ≤ getD column k 0
-      → length column ≤ length left → flagged left k ≡ commentOrMarked s l k → Undecided s l o base column tags attributes left k
-  undecided on base-is h deep room m =
+  pub undecided : {o : ExtractOptions} {base k : ℕ} {left : List Bool} {stack : List ℕ} → o .«main_content» ≡ true → base ≡ bodyDepth s l → k < length column → getD column (l .root) 0 ≤ getD column k 0
+      → length column ≤ length left → flagged left k ≡ commentOrMarked s l k → Fits column stack → Above column k stack → Undecided s l o base column tags attributes left stack k
+  undecided on base-is h deep room m fits above =
       record {
         noted = n;
         filters-on = on;
@@ -94,14 +109,24 @@ module _ {s : Bytes} {l : Layout} {column tags attributes : List ℕ} (n : Noted
         below = omega (arith, base-is, body-of-root .1, ap (λ (c : List ℕ). getD c (l .root) 0) (n .depths-are));
         room = omega arith;
         marked = m;
+        fits = fits;
+        above = above;
       }
 
   pub left-as-decided : (o : ExtractOptions) (left : List Bool) → Agree (flagged left) (leftOutAt s l o) (treeAt column (l .root)) → LeftOutRows s l o left
   left-as-decided o left a = rw (n .depths-are) at a
 
-pub row-decided : {s : Bytes} {l : Layout} {o : ExtractOptions} {base k d : ℕ} {column tags attributes : List ℕ} {left : List Bool} {out : Bool}
-    → Undecided s l o base column tags attributes left k → d ≡ getD column k 0 - base → out ≡ (flagged left k || not (isMainContent (nodeAt s l) (depths s l) o k d)) → out ≡ leftOutAt s l o k
+pub row-decided : {s : Bytes} {l : Layout} {o : ExtractOptions} {base k d : ℕ} {column tags attributes : List ℕ} {left : List Bool} {stack : List ℕ} {out : Bool}
+    → Undecided s l o base column tags attributes left stack k → d ≡ getD column k 0 - base → out ≡ (flagged left k || not (isMainContent (nodeAt s l) (depths s l) o k d)) → out ≡ leftOutAt s l o k
 row-decided {s} {l} {o} {k = k} u d-is out-is = by-filters s l o k (u .filters-on) (u .marked) (d-is ∙ rw (u .noted .depths-are, u .base-is)) out-is
+
+pub rows-above : {s : Bytes} {l : Layout} {o : ExtractOptions} {base k : ℕ} {column tags attributes : List ℕ} {left : List Bool} {stack : List ℕ}
+    → Undecided s l o base column tags attributes left stack k → Above (depths s l) k stack
+rows-above u = rw (u .noted .depths-are) at (u .above)
+
+pub row-inside : {s : Bytes} {l : Layout} {o : ExtractOptions} {base k : ℕ} {column tags attributes : List ℕ} {left : List Bool} {stack : List ℕ}
+    → Undecided s l o base column tags attributes left stack k → k < length column
+row-inside u = omega (arith, rows-are (u .noted), u .row)
 
 -- ---- without the filters
 

@@ -1,2 +1,3 @@
 pub mod DecidingLaws
 pub mod LeftOutLaws
+pub mod StackLaws

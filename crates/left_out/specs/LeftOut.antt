@@ -6,7 +6,7 @@ use Prim.Native.Nat.{ℕ, _+_, _≤_, _<_}
 use lib.ListN.{length, getD, drop}
 use Rattle.common.specs.Bytes.{Bytes}
 use Rattle.filters.specs.Filters.{filtered}
-use Rattle.filters.specs.Footer.{bodyAbove}
+use Rattle.filters.specs.Footer.{Above, bodyAbove}
 use Rattle.filters.specs.Sheet.{tagNumber}
 use Rattle.html2text.specs.Extract.{hidden}
 use Rattle.html2text.specs.Walk.{leftOut, treeOf}
@@ -18,6 +18,10 @@ use Rattle.sheet.specs.declared.line.Layout.{Layout}
 use Rattle.tree.specs.Page.{nodeAt, pageOf}
 use Rattle.tree.specs.Rows.{pastFrom}
 use Rattle.walk.specs.Turns.{Agree, flagged}
+
+-- an array has a place for every depth of a column
+pub record Fits (column stack : List ℕ) : Type 0 where
+  pub place : (i : ℕ) → i < length column → getD column i 0 < length stack
 
 module _ (s : Bytes) (l : Layout) where
   -- what is left out without the filters
@@ -51,7 +55,7 @@ module _ (s : Bytes) (l : Layout) where
     pub noted : (i : ℕ) → i < l .nodes → flagged left i ≡ commentOrMarked i
 
   -- row k can be decided, with the filters on
-  pub record Undecided (o : ExtractOptions) (base : ℕ) (column tags attributes : List ℕ) (left : List Bool) (k : ℕ) : Type 0 where
+  pub record Undecided (o : ExtractOptions) (base : ℕ) (column tags attributes : List ℕ) (left : List Bool) (stack : List ℕ) (k : ℕ) : Type 0 where
     pub noted : Noted column tags attributes
     pub filters-on : o .«main_content» ≡ true
     pub base-is : base ≡ bodyDepth
@@ -59,6 +63,8 @@ module _ (s : Bytes) (l : Layout) where
     pub below : base ≤ getD column k 0
     pub room : k < length left
     pub marked : flagged left k ≡ commentOrMarked k
+    pub fits : Fits column stack
+    pub above : Above column k stack
 
 -- the row that is decided behind row k: the first one past it where it is left out
 abbrev pub nextRow : List ℕ → Bool → ℕ → ℕ

@@ -1,73 +1,57 @@
 -- `footer::followed` meets its contract.
-use Prim.Native.Nat.{_<_}
-use mathlib.Core.Path.{_≡_, refl, sym, _∙_}
 use native.Mathlib.Omega.{arith}
-use borrow.Author.Needs.{needs}
-use denote.Ref.{now}
-use Rattle.sheet.specs.Layout.{depths}
-use Rattle.tree.specs.Page.{nodeAt}
-use Rattle.tree.specs.Rows.{pastOf}
-use Rattle.filters.specs.Footer.{followed}
-use Rattle.filters.proofs.FooterLaws.{found-some, found-none, parent-before, follow-none, follow-end, follow-body, follow-yes, follow-up}
-use Rattle.filters.proofs.RowLaws.{past-in-sheet, past-of-parent}
+use Rattle.filters.proofs.FooterLaws.{above-inside}
+use Rattle.filters.proofs.RowLaws.{past-in-sheet, Climbed, climbed-start, climbed-end, parent-inside, climbed-body, climbed-followed, climbed-more}
 use Rattle.filters.proofs.footer.followed.Statement.{statement}
 use Rattle.filters.proofs.footer.followed.Tie as tie
 
 abbrev Inv-loop : tie.InvT-loop
-Inv-loop s l i row₀ end₀ row end =
-    (row < l .nodes) × (end ≡ pastOf (depths s l) row) × (followed (nodeAt s l) (depths s l) row ≡ followed (nodeAt s l) (depths s l) i)
+Inv-loop s l i stack row₀ depth₀ end₀ row depth end = Climbed s l i stack row depth end
 
 abbrev μ-loop : tie.MeasureT-loop
-μ-loop s l i row₀ end₀ row end = row
-
-past-requires : tie.Need-past-requires Inv-loop μ-loop
-past-requires c κs = c .before .pre
-
-loop-holds : tie.Need-loop-holds Inv-loop μ-loop
-loop-holds c = (c .before .before .pre .1, c .past .ensures, refl)
-
-parent-requires : tie.Need-parent-requires Inv-loop μ-loop
-parent-requires c κs = (c .before .before .before .before .pre .0, c .before .loop .inv .0)
-
-enum-known-above : tie.Need-enum-known-above Inv-loop μ-loop
-enum-known-above c = search needs
-
-enum-told : tie.Need-enum-told Inv-loop μ-loop
-enum-told c = search needs
-
-returns : tie.Need-returns Inv-loop μ-loop
-returns c = follow-none (nodeAt (now (c .before .before .before .before .before .before .before .args .s)) (c .before .before .before .before .before .before .before .args .l)) (depths (now (c .before .before .before .before .before .before .before .args .s)) (c .before .before .before .before .before .before .before .args .l)) _ _ (c .before .before .before .before .loop .inv .2) (found-none _ (c .before .before .parent .ensures) (c .enum-told .given .1))
-
-is-body-requires : tie.Need-is-body-requires Inv-loop μ-loop
-is-body-requires c κs = (c .before .before .before .before .before .before .before .before .pre .0, omega (arith, parent-before (depths (now (c .before .before .before .before .before .before .before .before .args .s)) (c .before .before .before .before .before .before .before .before .args .l)) (c .before .before .before .before .before .loop .row) (c .before .above .given .0 .0) (found-some _ (c .before .before .before .parent .ensures) (c .before .above .given .1))))
-
-returns-2 : tie.Need-returns-2 Inv-loop μ-loop
-returns-2 c = follow-body (nodeAt (now (c .before .before .before .before .before .before .before .before .before .before .args .s)) (c .before .before .before .before .before .before .before .before .before .before .args .l)) (depths (now (c .before .before .before .before .before .before .before .before .before .before .args .s)) (c .before .before .before .before .before .before .before .before .before .before .args .l)) _ _ (c .before .before .before .before .before .before .before .loop .inv .2) _ (found-some _ (c .before .before .before .before .before .parent .ensures) (c .before .before .before .above .given .1)) (sym (c .before .is-body .ensures) ∙ c .if1 .taken)
-
-content-follows-requires : tie.Need-content-follows-requires Inv-loop μ-loop
-content-follows-requires c κs = (c .before .before .before .before .before .before .before .before .before .before .pre .0, c .before .before .before .before .before .before .before .loop .inv .0, c .before .before .before .before .before .before .before .loop .inv .1)
-
-returns-3 : tie.Need-returns-3 Inv-loop μ-loop
-returns-3 c = follow-yes (nodeAt (now (c .before .before .before .before .before .before .before .before .before .before .before .before .args .s)) (c .before .before .before .before .before .before .before .before .before .before .before .before .args .l)) (depths (now (c .before .before .before .before .before .before .before .before .before .before .before .before .args .s)) (c .before .before .before .before .before .before .before .before .before .before .before .before .args .l)) _ _ (c .before .before .before .before .before .before .before .before .before .loop .inv .2) _ (found-some _ (c .before .before .before .before .before .before .before .parent .ensures) (c .before .before .before .before .before .above .given .1)) (sym (c .before .before .before .is-body .ensures) ∙ c .before .before .if1 .left) (sym (c .before .content-follows .ensures) ∙ c .if2 .taken)
+μ-loop s l i stack row₀ depth₀ end₀ row depth end = depth
 
 depth-at-requires : tie.Need-depth-at-requires Inv-loop μ-loop
-depth-at-requires c κs = (c .before .before .before .before .before .before .before .before .before .before .before .before .pre .0, omega (arith, parent-before (depths (now (c .before .before .before .before .before .before .before .before .before .before .before .before .args .s)) (c .before .before .before .before .before .before .before .before .before .before .before .before .args .l)) (c .before .before .before .before .before .before .before .before .before .loop .row) (c .before .before .before .before .before .above .given .0 .0) (found-some _ (c .before .before .before .before .before .before .before .parent .ensures) (c .before .before .before .before .before .above .given .1))))
+depth-at-requires c κs = (c .before .before .pre .0, c .before .before .pre .1)
+
+past-requires : tie.Need-past-requires Inv-loop μ-loop
+past-requires c κs = (c .before .before .before .pre .0, c .before .before .before .pre .1)
+
+loop-holds : tie.Need-loop-holds Inv-loop μ-loop
+loop-holds c = climbed-start (c .before .before .before .before .pre .1) (c .before .depth-at .ensures) (c .past .ensures) (c .before .before .before .before .pre .2)
+
+sub-depth : tie.Need-sub-depth Inv-loop μ-loop
+sub-depth c = omega arith
+
+mul-above : tie.Need-mul-above Inv-loop μ-loop
+mul-above c = omega (arith, above-inside _ _ (c .before .loop .inv .above) (c .before .loop .inv .depth) (c .loop-test .taken))
+
+shared-slice-read-above : tie.Need-shared-slice-read-above Inv-loop μ-loop
+shared-slice-read-above c = above-inside _ _ (c .before .before .loop .inv .above) (c .before .before .loop .inv .depth) (c .before .loop-test .taken)
+
+is-body-requires : tie.Need-is-body-requires Inv-loop μ-loop
+is-body-requires c κs = (c .before .before .before .before .before .before .before .pre .0, parent-inside (c .before .before .loop .inv) (c .before .loop-test .taken))
+
+returns : tie.Need-returns Inv-loop μ-loop
+returns c = climbed-body (c .before .before .before .before .loop .inv) (c .before .before .before .loop-test .taken) (c .before .is-body .ensures) (c .if1 .taken)
+
+content-follows-requires : tie.Need-content-follows-requires Inv-loop μ-loop
+content-follows-requires c κs = (c .before .before .before .before .before .before .before .before .before .pre .0, c .before .before .before .before .loop .inv .inside, c .before .before .before .before .loop .inv .past)
+
+returns-2 : tie.Need-returns-2 Inv-loop μ-loop
+returns-2 c = climbed-followed (c .before .before .before .before .before .before .loop .inv) (c .before .before .before .before .before .loop-test .taken) (c .before .before .before .is-body .ensures) (c .before .before .if1 .left) (c .before .content-follows .ensures) (c .if2 .taken)
 
 past-from-requires : tie.Need-past-from-requires Inv-loop μ-loop
-past-from-requires c κs = (c .before .before .before .before .before .before .before .before .before .before .before .before .before .pre .0, past-in-sheet (now (c .before .before .before .before .before .before .before .before .before .before .before .before .before .args .s)) (c .before .before .before .before .before .before .before .before .before .before .before .before .before .args .l) _ (c .before .before .before .before .before .before .before .before .before .before .loop .inv .0) (c .before .before .before .before .before .before .before .before .before .before .loop .inv .1))
+past-from-requires c κs = (c .before .before .before .before .before .before .before .before .before .before .before .pre .0, past-in-sheet _ _ _ (c .before .before .before .before .before .before .loop .inv .inside) (c .before .before .before .before .before .before .loop .inv .past))
 
 loop-less : tie.Need-loop-less Inv-loop μ-loop
-loop-less c = parent-before (depths (now (c .before .before .before .before .before .before .before .before .before .before .before .before .before .before .args .s)) (c .before .before .before .before .before .before .before .before .before .before .before .before .before .before .args .l)) (c .before .before .before .before .before .before .before .before .before .before .before .loop .row) (c .before .before .before .before .before .before .before .above .given .0 .0) (found-some _ (c .before .before .before .before .before .before .before .before .before .parent .ensures) (c .before .before .before .before .before .before .before .above .given .1))
+loop-less c = omega (arith, c .before .before .before .before .before .before .loop-test .taken)
 
 loop-again : tie.Need-loop-again Inv-loop μ-loop
-loop-again c = (
-  omega (arith, parent-before (depths (now (c .before .before .before .before .before .before .before .before .before .before .before .before .before .before .args .s)) (c .before .before .before .before .before .before .before .before .before .before .before .before .before .before .args .l)) (c .before .before .before .before .before .before .before .before .before .before .before .loop .row) (c .before .before .before .before .before .before .before .above .given .0 .0) (found-some _ (c .before .before .before .before .before .before .before .before .before .parent .ensures) (c .before .before .before .before .before .before .before .above .given .1))),
-  past-of-parent (now (c .before .before .before .before .before .before .before .before .before .before .before .before .before .before .args .s)) (c .before .before .before .before .before .before .before .before .before .before .before .before .before .before .args .l) (c .before .before .before .before .before .before .before .before .before .before .before .before .before .before .pre .0) (c .before .before .before .before .before .before .before .before .before .before .before .loop .row) _ (c .before .before .before .before .before .before .before .before .before .before .before .loop .inv .0) (found-some _ (c .before .before .before .before .before .before .before .before .before .parent .ensures) (c .before .before .before .before .before .before .before .above .given .1)) (c .before .before .before .before .before .before .before .before .before .before .before .loop .inv .1) (c .before .depth-at .ensures) (c .past-from .ensures),
-  follow-up (nodeAt (now (c .before .before .before .before .before .before .before .before .before .before .before .before .before .before .args .s)) (c .before .before .before .before .before .before .before .before .before .before .before .before .before .before .args .l)) (depths (now (c .before .before .before .before .before .before .before .before .before .before .before .before .before .before .args .s)) (c .before .before .before .before .before .before .before .before .before .before .before .before .before .before .args .l)) _ _ (c .before .before .before .before .before .before .before .before .before .before .before .loop .inv .2) _ (found-some _ (c .before .before .before .before .before .before .before .before .before .parent .ensures) (c .before .before .before .before .before .before .before .above .given .1)) (sym (c .before .before .before .before .before .is-body .ensures) ∙ c .before .before .before .before .if1 .left) (sym (c .before .before .before .content-follows .ensures) ∙ c .before .before .if2 .left),
-)
+loop-again c = climbed-more (c .before .before .before .before .before .before .before .loop .inv) (c .before .before .before .before .before .before .loop-test .taken) (c .before .before .before .before .is-body .ensures) (c .before .before .before .if1 .left) (c .before .before .content-follows .ensures) (c .before .before .before .before .before .before .before .before .before .before .before .before .pre .0) (c .before .if2 .left) (c .past-from .ensures)
 
-returns-4 : tie.Need-returns-4 Inv-loop μ-loop
-returns-4 c = follow-end (nodeAt (now (c .before .before .before .before .args .s)) (c .before .before .before .before .args .l)) (depths (now (c .before .before .before .before .args .s)) (c .before .before .before .before .args .l)) _ _ (c .before .loop .inv .2) (c .loop-test .left)
+returns-3 : tie.Need-returns-3 Inv-loop μ-loop
+returns-3 c = climbed-end (c .before .loop .inv) (c .loop-test .left)
 
 pub followed-spec : {M : Type 1} → statement M
 followed-spec =
@@ -75,18 +59,17 @@ followed-spec =
     (tie.spec
     Inv-loop
     μ-loop
+    depth-at-requires
     past-requires
     loop-holds
-    parent-requires
-    enum-known-above
-    enum-told
-    returns
+    sub-depth
+    mul-above
+    shared-slice-read-above
     is-body-requires
-    returns-2
+    returns
     content-follows-requires
-    returns-3
-    depth-at-requires
+    returns-2
     past-from-requires
     loop-less
     loop-again
-    returns-4)
+    returns-3)
