@@ -1,3 +1,3 @@
-pub mod TakeLaws
-pub mod VisitLaws
-pub mod WriteLaws
+pub mod BeginLaws
+pub mod SayLaws
+pub mod PassLaws

@@ -1,27 +1,64 @@
 -- What the numbers of a pass say of a fused run in which no entry was refused, and what its functions ask for and promise.
 use mathlib.Core.Path.{_≡_}
-use mathlib.Core.Bool.{Bool, true}
-use Prim.Native.Nat.{ℕ, _≤_, _<_}
+use mathlib.Core.Bool.{Bool, true, false, _&&_, not, cond}
+use mathlib.Core.List.{List, []}
+use Prim.Native.Nat.{ℕ, _+_, _≤_, _<_}
+use lib.Dec.{leb}
 use lib.ListN.{length}
 use Rattle.common.specs.Bytes.{Bytes}
+use Rattle.options.specs.Options.{isOff}
 use Rattle.options.specs.declared.ExtractOptions.{ExtractOptions}
-use Rattle.writer.specs.Writing.{Room}
+use Rattle.options.specs.declared.Formatting.{Formatting}
+use Rattle.sheet.specs.declared.line.Layout.{Layout}
+use Rattle.tags.specs.Tags.{isTr}
+use Rattle.writer.specs.Writing.{Held, Room}
+use Rattle.writer.specs.declared.Writer.{Writer}
 use Rattle.html2text.specs.Bounds.{mostEvents, StateBounded}
-use Rattle.html2text.specs.Extract.{going}
-use Rattle.html2text.specs.Fused.{Fused, closed}
-use Rattle.html2text.specs.Serialize.{State}
-use Rattle.collect.specs.Entries.{Opens}
-use Rattle.serializer.specs.Serializing.{Lent, Stands}
-use Rattle.serializer.specs.declared.Serializer.{Serializer}
-use Rattle.writing.specs.declared.Pass.{Pass}
+use Rattle.html2text.specs.Collect.{Event, marked}
+use Rattle.html2text.specs.Extract.{Run, going, tooManyLevels, tooManyRows}
+use Rattle.html2text.specs.Fused.{Fused, closed, pushesOn, fed}
+use Rattle.html2text.specs.Serialize.{State, changesLevel, step}
+use Rattle.html2text.specs.Showing.{droppedShowing, showingOf, showingAfter, begun}
+use Rattle.html2text.specs.declared.Showing.{Showing}
+use Rattle.collect.specs.Entries.{opensOn, nodeOf}
+use Rattle.collect.specs.Visits.{Visits, eventOf}
+use Rattle.collect.specs.declared.Visit.{Visit}
+use Rattle.serializer.specs.Serializing.{noSerializer, Lent, Stands}
+use Rattle.visits.specs.Visiting.{passesOf, runOf}
+use Rattle.writing.specs.declared.OpenEntry.{OpenEntry}
+use Rattle.writing.specs.declared.Passed.{Passed}
+use Rattle.writing.specs.declared.Passed.the-variants.{Text, TooManyLevels, TooManyRows}
 
--- The numbers and the lent arrays stand for a fused run; `under` and `below` are the buffers of the entries' texts and of the text as they
--- were.
-pub record Passes (write : Bool) (under below : Bytes) (p : Pass) (work : Bytes) (a : Lent) (F : Fused) : Type 0 where
-  pub entry : Opens true under (p .entry) work F
+-- before the first visit
+abbrev pub noPass : OpenEntry
+noPass = record { progress = record { serializer = noSerializer; len = 0; need = 0; showing = droppedShowing }; depth = 0; «pre_depth» = 0; tag = 0; any = false }
+
+-- `depthPasses` and `rowsPass` of the entry that a visit would open
+abbrev pub depthPassesAt : Formatting → Visit → ℕ → Bool
+depthPassesAt f v depth = not (isOff f) && (not (v .end) && (changesLevel (v .tag) depth && leb 1024 depth))
+
+abbrev pub rowsPassAt : Visit → ℕ → Bool
+rowsPassAt v rows = isTr (v .tag) && (not (v .end) && leb 1024 rows)
+
+-- how more of the open entry's text is shown
+pub record ShowingIs (o : ExtractOptions) (F : Fused) (w : Showing) : Type 0 where
+  pub before : State
+  pub run : F .run ≡ going before
+  pub is : w ≡ showingAfter (showingOf (o .formatting) (o .«list_bullets») (F .node) before) (F .note .text)
+
+-- The numbers and the lent arrays stand for a fused run, its open entry's text so far shown; `under` is the buffer as it was.
+pub record Passes (o : ExtractOptions) (write : Bool) (under : Bytes) (p : OpenEntry) (a : Lent) (F : Fused) : Type 0 where
+  pub any : p .any ≡ F .any
+  pub depth : p .depth ≡ F .node .depth
+  pub nested : p .«pre_depth» ≡ F .node .«pre_depth»
+  pub tag : p .tag ≡ F .node .tag
+  pub len : p .progress .len ≡ length (F .note .text)
+  pub need : p .progress .need ≡ F .note .peak
+  pub below : length (F .note .text) ≤ F .note .peak
   pub state : State
-  pub run : F .run ≡ going state
-  pub stands : Stands write below (p .serializer) a state
+  pub run : closed o F ≡ going state
+  pub stands : Stands write under (p .progress .serializer) a state
+  pub showing : F .any ≡ true → ShowingIs o F (p .progress .showing)
 
 -- the arrays of list numbers and of rows have a place for each level and row
 pub record Levelled (a : Lent) : Type 0 where
@@ -29,49 +66,70 @@ pub record Levelled (a : Lent) : Type 0 where
   pub cells : length (a .cells) ≡ 1024
 
 -- they stand for a run of few entries
-pub record Standing (write : Bool) (p : Pass) (work : Bytes) (a : Lent) : Type 0 where
+pub record Standing (o : ExtractOptions) (write : Bool) (p : OpenEntry) (a : Lent) : Type 0 where
   pub under : Bytes
-  pub below : Bytes
   pub fused : Fused
-  pub passes : Passes write under below p work a fused
+  pub passes : Passes o write under p a fused
   pub count : ℕ
   pub few : count ≤ mostEvents
-  pub bounded : StateBounded count (passes .state)
+  pub bounded : StateBounded (count + 1) (passes .state)
+  pub deep : fused .node .«pre_depth» < 4611686018427387904
   pub levelled : Levelled a
 
--- ---- the open entry goes to `serialize`
+-- of every run that they stand for at first, they stand for G of it at last
+pub record PassDoes (o : ExtractOptions) (write : Bool) (p : OpenEntry) (a : Lent) (p′ : OpenEntry) (a′ : Lent) (G : Fused → Fused) : Type 0 where
+  pub run : (under : Bytes) (F : Fused) → Passes o write under p a F → Passes o write under p′ a′ (G F)
 
--- no limit is passed, and there is room for what the entry writes
-pub record GoesOn (o : ExtractOptions) (write : Bool) (below : Bytes) (F : Fused) : Type 0 where
-  pub after : State
-  pub is : closed o F ≡ going after
-  pub room : Room write below (after .out .peak)
+-- ---- the entry that a visit opens
 
-pub record TakeReady (o : ExtractOptions) (write : Bool) (p : Pass) (work : Bytes) (a : Lent) : Type 0 where
-  pub standing : Standing write p work a
-  pub goes-on : GoesOn o write (standing .below) (standing .fused)
+-- the run with the entry that an event opens, where it opens one
+abbrev pub beginning : ExtractOptions → Event → Fused → Fused
+beginning o e F = cond (pushesOn o F e) (begun o e F) F
 
-pub record Takes (o : ExtractOptions) (write : Bool) (p : Pass) (work : Bytes) (a : Lent) (t : Serializer) (a′ : Lent) : Type 0 where
-  pub run : (under below : Bytes) (F : Fused) (S : State) → Passes write under below p work a F → closed o F ≡ going S → Stands write below t a′ S
+-- it passes no limit, and there is room for what it writes before its text
+pub record OpenReady (o : ExtractOptions) (write : Bool) (v : Visit) (p : OpenEntry) (a : Lent) : Type 0 where
+  pub standing : Standing o write p a
+  pub levels : depthPassesAt (o .formatting) v (p .progress .serializer .depth) ≡ false
+  pub rows : rowsPassAt v (p .progress .serializer .rows) ≡ false
+  pub room : opensOn o (p .any) (p .depth) v ≡ true
+      → Room write (standing .under) (step (o .formatting) (o .«list_bullets») (marked o (v .tag) (nodeOf o (p .«pre_depth») v)) [] (standing .passes .state) .out .peak)
+
+pub record Opens (o : ExtractOptions) (write : Bool) (v : Visit) (p : OpenEntry) (a : Lent) (p′ : OpenEntry) (a′ : Lent) : Type 0 where
+  pub at : (s : Bytes) (l : Layout) → Visits s l v → PassDoes o write p a p′ a′ (beginning o (eventOf s l v))
 
 -- ---- a visit
 
-pub record PassReady (o : ExtractOptions) (write : Bool) (p : Pass) (work : Bytes) (a : Lent) (pushes : Bool) (G : Fused → Fused) : Type 0 where
-  pub standing : Standing write p work a
-  pub nested : standing .fused .node .«pre_depth» < 4611686018427387904
-  pub note-room : Room true (standing .under) (G (standing .fused) .note .peak)
-  -- where the visit opens an entry, the one before it is taken
-  pub goes-on : pushes ≡ true → GoesOn o write (standing .below) (standing .fused)
+pub record PassReady (o : ExtractOptions) (write : Bool) (e : Event) (v : Visit) (p : OpenEntry) (a : Lent) : Type 0 where
+  pub opens : OpenReady o write v p a
+  pub small : fed o e (opens .standing .fused) .note .peak < 4611686018427387904
+  pub after : State
+  pub goes-on : closed o (fed o e (opens .standing .fused)) ≡ going after
+  pub room : Room write (opens .standing .under) (after .out .peak)
 
--- Of every run that they stand for at first and that goes on, they stand for G of it at last.
-pub record PassDoes (write : Bool) (p : Pass) (work : Bytes) (a : Lent) (p′ : Pass) (work′ : Bytes) (a′ : Lent) (G : Fused → Fused) : Type 0 where
-  pub run : (under below : Bytes) (F : Fused) → Passes write under below p work a F → (S : State) → G F .run ≡ going S → Passes write under below p′ work′ a′ (G F)
+-- ---- the whole pass
 
--- ---- the whole pass, over a run that ends as `whole`
+module _ (o : ExtractOptions) (s : Bytes) (l : Layout) (left : List Bool) where
+  -- where the text is written, no entry is refused and there is room for it
+  pub record TextFits (out : Bytes) : Type 0 where
+    pub state : State
+    pub run : closed o (runOf s l o left) ≡ going state
+    pub fits : state .out .peak ≤ length out
 
--- no entry is refused, and there is room for the entries' texts and, where it is written, for the text
-pub record WriteReady (o : ExtractOptions) (whole : Fused) (write : Bool) (work out : Bytes) : Type 0 where
-  pub state : State
-  pub goes-on : closed o whole ≡ going state
-  pub work-long : whole .note .peak ≤ length work
-  pub out-long : write ≡ true → state .out .peak ≤ length out
+  abbrev pub WriteReady : Bool → Bytes → Type 0
+  WriteReady write out = write ≡ true → TextFits out
+
+  pub record TextPassed (write : Bool) (out : Bytes) (need visits : ℕ) (w : Writer) (out′ : Bytes) : Type 0 where
+    pub need-is : need ≡ runOf s l o left .note .peak
+    pub visits-is : visits ≡ length (passesOf s l left)
+    pub state : State
+    pub run : closed o (runOf s l o left) ≡ going state
+    pub held : Held write out w out′ (state .out)
+
+  pub record PassRefused (write : Bool) (out : Bytes) (R : Run) (out′ : Bytes) : Type 0 where
+    pub run : closed o (runOf s l o left) ≡ R
+    pub still : write ≡ false → out′ ≡ out
+
+  abbrev pub PassesAll : Bool → Bytes → Passed → Bytes → Type 0
+  PassesAll write out (Text need visits w) out′ = TextPassed write out need visits w out′
+  PassesAll write out (TooManyLevels line) out′ = PassRefused write out (tooManyLevels line) out′
+  PassesAll write out (TooManyRows line) out′ = PassRefused write out (tooManyRows line) out′

@@ -23,7 +23,7 @@ ghost use Rattle.collect.specs.Visits.{Visits, eventOf};
 ghost use Rattle.html2text.specs.Fused.{fed};
 ghost use Rattle.serializer.specs.Serializing.{lent};
 ghost use Rattle.visits.specs.Visiting.{Noted, Walked};
-ghost use Rattle.writing.specs.Passing.{AddReady, Adds, OpenReady, Opens, PassDoes, PassReady, PassesAll, WriteReady, depthPassesAt, noPass, rowsPassAt};
+ghost use Rattle.writing.specs.Passing.{OpenReady, Opens, PassDoes, PassReady, PassesAll, WriteReady, depthPassesAt, noPass, rowsPassAt};
 
 const TR: u8 = 1;
 
@@ -31,7 +31,7 @@ const TR: u8 = 1;
 const MOST: usize = 1024;
 
 // Along a pass: the open entry's progress, and of its node what later visits look at. any: whether one is open.
-pub struct Pass {
+pub struct OpenEntry {
     pub progress: Progress,
     pub depth: usize,
     pub pre_depth: usize,
@@ -51,7 +51,7 @@ pub enum Passed {
 }
 
 // Before the first visit.
-fn start() -> Pass
+fn start() -> OpenEntry
     ensures { λ r. ⌜ r ≡ noPass ⌝ }
 {
     let serializer = Serializer::new();
@@ -68,7 +68,7 @@ fn start() -> Pass
         need: 0,
         showing,
     };
-    Pass {
+    OpenEntry {
         progress,
         depth: 0,
         pre_depth: 0,
@@ -94,22 +94,25 @@ fn passes_levels(f: Formatting, v: Visit, depth: usize) -> bool
 fn passes_rows(v: Visit, rows: usize) -> bool
     ensures { λ r. ⌜ r ≡ rowsPassAt v rows ⌝ }
 {
-    if v.end {
-        return false;
+    if v.tag == TR {
+        if v.end {
+            return false;
+        }
+        return MOST <= rows;
     }
-    v.tag == TR && MOST <= rows
+    false
 }
 
 // The entry that a visit opens, if it opens one.
 fn open(
     o: ExtractOptions,
     v: Visit,
-    p: Pass,
+    p: OpenEntry,
     numbering: &mut [usize],
     cells: &mut [bool],
     out: &mut [u8],
     write: bool,
-) -> Pass
+) -> OpenEntry
     requires { ⌜ OpenReady o write v p (lent (now numbering) (now cells) (now out)) ⌝ }
     ensures { λ r. ⌜ Opens o write v p (lent (now (numbering .entry)) (now (cells .entry)) (now (out .entry))) r (lent (now (numbering .exit)) (now (cells .exit)) (now (out .exit))) ⌝ }
 {
@@ -134,7 +137,7 @@ fn open(
             need: p.progress.need,
             showing,
         };
-        return Pass {
+        return OpenEntry {
             progress,
             depth: n.depth,
             pre_depth: n.pre_depth,
@@ -151,19 +154,19 @@ fn pass_visit(
     s: &[u8],
     l: Layout,
     v: Visit,
-    p: Pass,
+    p: OpenEntry,
     numbering: &mut [usize],
     cells: &mut [bool],
     out: &mut [u8],
     write: bool,
-) -> Pass
+) -> OpenEntry
     requires { ⌜ Visits (now s) l v ⌝ }
     requires { ⌜ PassReady o write (eventOf (now s) l v) v p (lent (now numbering) (now cells) (now out)) ⌝ }
     ensures { λ r. ⌜ PassDoes o write p (lent (now (numbering .entry)) (now (cells .entry)) (now (out .entry))) r (lent (now (numbering .exit)) (now (cells .exit)) (now (out .exit))) (fed o (eventOf (now (s .entry)) l v)) ⌝ }
 {
     let q = open(o, v, p, numbering, cells, out, write);
     let progress = add(o, s, l, v, q.tag, q.progress, out, write);
-    Pass {
+    OpenEntry {
         progress,
         depth: q.depth,
         pre_depth: q.pre_depth,
@@ -228,10 +231,11 @@ pub fn pass(
                 visits += 1;
             }
             Seen::Done => {
+                let writer = p.progress.serializer.writer;
                 return Passed::Text {
                     need: p.progress.need,
                     visits,
-                    writer: p.progress.serializer.writer,
+                    writer,
                 };
             }
         }
