@@ -1,6 +1,5 @@
 -- Part of the way along a run: what is known of the state, and that no part writes more than the whole.
 use mathlib.Core.Path.{_≡_, refl, subst}
-use mathlib.Core.Bool.{true}
 use mathlib.Core.List.{List, [], _∷_}
 use Prim.Native.Nat.{_+_, _≤_, _<_}
 use native.Mathlib.Omega.{arith}
@@ -9,11 +8,11 @@ use Rattle.options.specs.declared.ExtractOptions.{ExtractOptions}
 use Rattle.html2text.specs.Bounds.{mostEvents, StateBounded, EachAdds, Along}
 use Rattle.html2text.specs.Collect.{Event}
 use Rattle.html2text.specs.Extract.{going}
-use Rattle.html2text.specs.Fused.{Fused, idle, closed, pushesOn, fed, fedAll}
+use Rattle.html2text.specs.Fused.{Fused, idle, closed, fed, fedAll}
 use Rattle.html2text.specs.Serialize.{State}
 use Rattle.html2text.proofs.BoundLaws.{bounded-idle, bounded-fed, bounded-closed, written-small}
 use Rattle.html2text.proofs.GoingLaws.{going-at}
-use Rattle.html2text.proofs.RiseLaws.{Onward, onward-all, onward-opened, note-all}
+use Rattle.html2text.proofs.RiseLaws.{note-all}
 
 pub along-start : {o : ExtractOptions} {es : List Event} → length es ≤ mostEvents → EachAdds o es → Along o (fedAll o es idle) es idle
 along-start few each = record { count = 0; few = omega arith; bounded = bounded-idle; each = each; same = refl }
@@ -22,14 +21,8 @@ module _ {o : ExtractOptions} {whole F : Fused} where
   -- ---- wherever
 
   module _ {rest : List Event} (a : Along o whole rest F) where
-    pub along-run : Onward (F .run) (closed o whole)
-    along-run = subst (λ (W : Fused). Onward (F .run) (closed o W)) (a .same) (onward-all o rest F)
-
     pub along-need : F .note .peak ≤ whole .note .peak
     along-need = subst (λ (W : Fused). F .note .peak ≤ W .note .peak) (a .same) (note-all o rest F)
-
-    pub along-state : {S : State} → F .run ≡ going S → StateBounded (a .count) S
-    along-state e = going-at (StateBounded (a .count)) (a .bounded .run) e
 
     -- the open entry taken
     pub along-closed : {S : State} → closed o F ≡ going S → StateBounded (a .count + 1) S
@@ -51,9 +44,6 @@ module _ {o : ExtractOptions} {whole F : Fused} where
           each = a .each .1;
           same = a .same;
         }
-
-    pub along-opened : pushesOn o F e ≡ true → Onward (closed o F) (closed o whole)
-    along-opened p = subst (λ (W : Fused). Onward (closed o F) (closed o W)) (a .same) (onward-opened o e rest F p)
 
   -- ---- behind the last
 

@@ -1,12 +1,12 @@
 -- The numbers of a run stay within their bounds.
-use mathlib.Core.Path.{_≡_, refl}
+use mathlib.Core.Path.{_≡_, refl, ap, _∙_}
 use mathlib.Core.Bool.{Bool, true, false, _&&_, _||_, not}
 use mathlib.Core.List.{List, [], _∷_, _++_}
 use Prim.Native.Nat.{ℕ, suc, _+_, _*_, _≤_, _<_}
 use native.Mathlib.Nat.{zero-add}
 use native.Mathlib.Omega.{arith}
 use lib.Dec.{leb}
-use lib.ListN.{length}
+use lib.ListN.{length, length-append}
 use borrow.Author.Tests.{leb-false}
 use Rattle.common.specs.Bytes.{Bytes}
 use Rattle.common.proofs.Choice.{by-cond}
@@ -15,7 +15,7 @@ use Rattle.options.specs.declared.ExtractOptions.{ExtractOptions}
 use Rattle.options.specs.declared.Formatting.{Formatting}
 use Rattle.tags.specs.Tags.{isTr, isPre, isTextarea}
 use Rattle.writer.specs.Out.{Out, pushAll}
-use Rattle.writer.proofs.OutLaws.{greater-max, push-all-peak}
+use Rattle.writer.proofs.OutLaws.{greater-max, push-all-text, push-all-peak}
 use Rattle.html2text.specs.Bounds.{mostEvents, mostAdded, mostWritten, Going, StateBounded, Bounded, Adds, EachAdds, RunBounded}
 use Rattle.html2text.specs.Collect.{Event, Entry, tagNumber, preDepth, added}
 use Rattle.html2text.specs.Extract.{Run, going, tooManyLevels, tooManyRows, passesLevels, passesRows}
@@ -24,9 +24,22 @@ use Rattle.html2text.specs.Levels.{recounted, depthAfter}
 use Rattle.html2text.specs.Serialize.{State, changesLevel, step}
 use Rattle.html2text.specs.declared.ExtractNode.{ExtractNode}
 use Rattle.html2text.proofs.LevelLaws.{step-levels}
-use Rattle.html2text.proofs.MeasureLaws.{below-fed}
 use Rattle.html2text.proofs.GoingLaws.{going-taken}
 use Rattle.html2text.proofs.StepBounds.{Within, within-step}
+
+-- ---- the open entry's text is no longer than the greatest length
+
+abbrev Below : Fused → Type 0
+Below F = length (F .note .text) ≤ F .note .peak
+
+pushed-below : (s : Bytes) (O : Out) → length (O .text) ≤ O .peak → length (pushAll s O .text) ≤ pushAll s O .peak
+pushed-below s O h =
+    omega (arith, ap length (push-all-text s O) ∙ length-append (O .text) s, push-all-peak s O h, greater-max (O .peak) (length (O .text) + length s))
+
+below-fed : (o : ExtractOptions) (e : Event) (F : Fused) → Below F → Below (fed o e F)
+unfolding fed opened grown
+below-fed o e F h =
+    by-cond Below (pushesOn o F e) (λ p. pushed-below (added o (e .node) (e .end) (tagNumber (e .node))) (emptied o (F .note)) (omega arith)) (λ p. pushed-below (added o (e .node) (e .end) (F .node .tag)) (F .note) h)
 
 -- ---- list depth and open rows: a step that would pass is refused
 

@@ -12,7 +12,6 @@ pub mod GoingLaws
 pub mod LevelLaws
 pub mod LevelMetLaws
 pub mod LostStrip
-pub mod MeasureLaws
 pub mod OffLaws
 pub mod OpenLaws
 pub mod PageBounds

@@ -2,7 +2,7 @@
 use mathlib.Core.Path.{_≡_, refl, sym, ap, subst, _∙_}
 use mathlib.Core.Bool.{Bool, true, false, cond}
 use mathlib.Core.List.{List, [], _∷_, _++_}
-use Prim.Native.Nat.{ℕ, suc, _+_, _≤_, _<_}
+use Prim.Native.Nat.{ℕ, suc, _+_, _<_}
 use native.Mathlib.Omega.{arith}
 use Rattle.common.specs.Bytes.{Bytes}
 use Rattle.common.proofs.Choice.{by-test}
@@ -16,7 +16,7 @@ use Rattle.html2text.specs.Fused.{Fused, closed, openEntry, pushesOn, op
 use Rattle.html2text.specs.Serialize.{State, step}
 use Rattle.html2text.specs.Showing.{showingAfter, showPiece, showingOf, begun, saidMore}
 use Rattle.html2text.specs.declared.ExtractNode.{ExtractNode}
-use Rattle.html2text.proofs.AlongLaws.{along-next, along-need, along-written}
+use Rattle.html2text.proofs.AlongLaws.{along-next, along-written}
 use Rattle.html2text.proofs.BoundLaws.{bounded-fed, bounded-closed, written-small, need-small}
 use Rattle.html2text.proofs.GoingLaws.{going-at}
 use Rattle.html2text.proofs.RiseLaws.{Onward, onward-none, onward-then, onward-closed}
@@ -158,14 +158,8 @@ module _ {o : ExtractOptions} {whole F : Fused} {e : Event} {rest : List Event} 
   pub fed-onward : Onward (closed o (fed o e F)) (closed o whole)
   fed-onward = along-onward (along-next a)
 
-  pub fed-bounded : {T : State} → closed o (fed o e F) ≡ going T → StateBounded (a .count + 2) T
-  fed-bounded c = bounded-two next-bounded c
-
   pub fed-written : {T : State} → closed o (fed o e F) ≡ going T → T .out .peak < 4611686018427387904
   fed-written c = along-written (along-next a) c
-
-  pub fed-need : fed o e F .note .peak ≤ whole .note .peak
-  fed-need = along-need (along-next a)
 
   pub fed-need-small : fed o e F .note .peak < 4611686018427387904
   fed-need-small = need-small (omega (arith, a .few)) next-bounded

@@ -294,11 +294,6 @@ module _ (o : ExtractOptions) where
   onward-all [] F = onward-closed F
   onward-all (e ∷ es) F = onward-then (onward-fed e F) (onward-all es (fed o e F))
 
-  -- the same of an entry that an event closes
-  pub onward-opened : (e : Event) (es : List Event) (F : Fused) → pushesOn o F e ≡ true → Onward (closed o F) (closed o (fedAll o (e ∷ es) F))
-  unfolding fedAll fed opened
-  onward-opened e es F p = rw p (onward-all es (opened o e F))
-
   -- ---- the greatest length of an entry's text
 
   pub note-fed : (e : Event) (F : Fused) → F .note .peak ≤ fed o e F .note .peak
