@@ -1,6 +1,6 @@
 -- The answer and the buffers at each return: a limit passed, work too short, out too short, a text.
-use mathlib.Core.Path.{_≡_, refl, sym, ap, subst, _∙_}
-use mathlib.Core.Bool.{Bool, true, false, cond, true≢false}
+use mathlib.Core.Path.{_≡_, refl, ap, _∙_}
+use mathlib.Core.Bool.{true}
 use mathlib.Core.List.{List, [], _++_}
 use Prim.Native.Nat.{ℕ, _+_, _-_, _≤_, _<_}
 use native.Mathlib.Omega.{arith}
@@ -8,7 +8,6 @@ use lib.Dec.{ltb}
 use lib.ListN.{length, take, replicate, length-take}
 use borrow.Author.Tests.{lt-ltb, le-ltb}
 use Rattle.common.specs.Bytes.{Bytes, padded}
-use Rattle.options.specs.declared.ExtractOptions.{ExtractOptions}
 use Rattle.text.specs.Text.{isSpace, rstrip}
 use Rattle.text.proofs.TrimLaws.{rstrip-length}
 use Rattle.writer.specs.Out.{Out, strip}
@@ -16,12 +15,10 @@ use Rattle.writer.specs.Writing.{Held, trimmed}
 use Rattle.writer.specs.declared.Writer.{Writer}
 use Rattle.writer.proofs.HeldLaws.{trim-does}
 use Rattle.html2text.specs.Extract.{Run, going, tooManyLevels, tooManyRows, finished}
-use Rattle.html2text.specs.Fused.{Fused, closed}
 use Rattle.html2text.specs.Serialize.{State}
 use Rattle.html2text.specs.declared.Extraction.{Extraction}
 use Rattle.html2text.specs.declared.Extraction.the-variants.{Text, ListLevels, OpenRows, WorkTooShort, OutTooShort}
-use Rattle.writing.specs.Passing.{WriteReady}
-use Rattle.extract.specs.Concluding.{Concludes, GoesOn}
+use Rattle.extract.specs.Concluding.{Concludes}
 
 -- the text without the blanks at its end, and zeros behind it
 pub text-padded : {under buf : Bytes} {w : Writer} {o : Out} → Held true under w buf o → take (w .kept) buf ++ replicate (length buf - w .kept) 0 ≡ padded (rstrip (o .text)) (length under)
@@ -51,30 +48,16 @@ module _ (need passes : ℕ) (out work : Bytes) where
         let q = lt-ltb (length work) need h in
         rw e (record { answer = rw q; out-is = rw q; work-is = rw q })
 
-    module _ (h : need ≤ length work) where
-      -- measured: out is as it was
-      pub concludes-out : (cleared : Bytes) {w : Writer} {out′ work′ : Bytes} → Held false out w out′ (S .out) → length out′ < w .peak → length cleared ≡ length work
-          → work′ ≡ take 0 cleared ++ replicate (length cleared - 0) 0 → Concludes need passes R out work (OutTooShort (w .peak)) out′ work′
-      concludes-out cleared {w} {out′} m short same zeros =
+    module _ (h : need ≤ length work) {peak : ℕ} (longest : peak ≡ S .out .peak) {work′ : Bytes} (zeros : work′ ≡ take 0 work ++ replicate (length work - 0) 0) where
+      pub concludes-out : length out < peak → Concludes need passes R out work (OutTooShort peak) out work′
+      concludes-out short =
           let q = le-ltb (length work) need h in
-          let p = lt-ltb (length out) (S .out .peak) (omega (arith, short, m .peak, m .long)) in
-          rw (e, m .peak, m .still refl, zeros, same) (record { answer = rw (q, p); out-is = rw (q, p); work-is = rw q })
+          let p = lt-ltb (length out) (S .out .peak) (omega (arith, short, longest)) in
+          rw (e, longest, zeros) (record { answer = rw (q, p); out-is = rw (q, p); work-is = rw q })
 
-      -- measured, and then written
-      pub concludes-text : (cleared : Bytes) {v w : Writer} {measured written out′ work′ : Bytes} → Held false out v measured (S .out) → Held true measured w written (S .out) → v .peak ≤ length measured
-          → length cleared ≡ length work → work′ ≡ take 0 cleared ++ replicate (length cleared - 0) 0 → out′ ≡ take (w .kept) written ++ replicate (length written - w .kept) 0
+      pub concludes-text : {w : Writer} {written out′ : Bytes} → peak ≤ length out → Held true out w written (S .out) → out′ ≡ take (w .kept) written ++ replicate (length written - w .kept) 0
           → Concludes need passes R out work (Text passes (w .kept)) out′ work′
-      concludes-text cleared {v} {w} m t fits same zeros text-is =
+      concludes-text {w} fits t text-is =
           let q = le-ltb (length work) need h in
-          let p = le-ltb (length out) (S .out .peak) (omega (arith, fits, m .peak, m .long)) in
-          rw (e, t .kept, text-is ∙ text-padded t, m .long, zeros, same) (record { answer = rw (q, p); out-is = rw (q, p); work-is = rw q })
-
--- ---- before the second and the third pass
-
-module _ {o : ExtractOptions} {whole : Fused} {need : ℕ} (work : Bytes) (g : GoesOn (closed o whole)) (small : whole .note .peak ≤ need) (h : need ≤ length work) where
-  pub measure-ready : (out : Bytes) → WriteReady o whole false work out
-  measure-ready out = record { state = g .state; goes-on = g .goes-on; work-long = omega arith; out-long = λ q. absurd (true≢false (sym q)) }
-
-  pub write-ready : (work′ : Bytes) {v : Writer} {out measured : Bytes} → Held false out v measured (g .state .out) → v .peak ≤ length measured → length work′ ≡ length work → WriteReady o whole true work′ measured
-  write-ready work′ m fits same =
-      record { state = g .state; goes-on = g .goes-on; work-long = omega (arith, same); out-long = λ q. omega (arith, fits, m .peak) }
+          let p = le-ltb (length out) (S .out .peak) (omega (arith, fits, longest)) in
+          rw (e, t .kept, text-is ∙ text-padded t, zeros) (record { answer = rw (q, p); out-is = rw (q, p); work-is = rw q })

@@ -1,50 +1,87 @@
--- The first pass, and the answer by what it counts.
-use mathlib.Core.Path.{_≡_, sym, ap, subst, _∙_}
-use mathlib.Core.Bool.{Bool}
-use mathlib.Core.List.{List}
-use Prim.Native.Nat.{ℕ, _≤_}
+-- The two passes, and the answer by what each gives.
+use mathlib.Core.Path.{_≡_, refl, sym, ap, subst, _∙_}
+use mathlib.Core.Bool.{Bool, true, false, true≢false}
+use mathlib.Core.List.{List, _++_}
+use Prim.Native.Nat.{ℕ, _-_, _≤_}
 use native.Mathlib.Omega.{arith}
-use lib.ListN.{length}
+use lib.ListN.{length, take, replicate}
 use Rattle.common.specs.Bytes.{Bytes}
 use Rattle.options.specs.declared.ExtractOptions.{ExtractOptions}
 use Rattle.sheet.specs.declared.line.Layout.{Layout}
 use Rattle.writer.specs.Out.{greater}
-use Rattle.writer.proofs.OutLaws.{greater-max}
-use Rattle.html2text.specs.Extract.{Run}
+use Rattle.writer.specs.declared.Writer.{Writer}
+use Rattle.html2text.specs.Extract.{tooManyLevels, tooManyRows}
 use Rattle.html2text.specs.Fused.{closed}
+use Rattle.html2text.specs.Serialize.{State}
 use Rattle.html2text.specs.declared.Extraction.{Extraction}
-use Rattle.html2text.specs.declared.Extraction.the-variants.{ListLevels, OpenRows}
-use Rattle.html2text.proofs.MeasureLaws.{levels-going, levels-depth, levels-rows}
+use Rattle.html2text.specs.declared.Extraction.the-variants.{Text, ListLevels, OpenRows}
 use Rattle.visits.specs.Visiting.{passesOf, runOf}
-use Rattle.measuring.specs.Measuring.{levelsIn, MeasuresAll}
-use Rattle.measuring.specs.declared.Levels.{Levels}
-use Rattle.measuring.specs.declared.Levels.the-variants.{Counted, TooManyLevels, TooManyRows}
-use Rattle.measuring.specs.declared.Measured.{Measured}
+use Rattle.writing.specs.Passing.{WriteReady, TextPassed, PassRefused, Outcome, PassesAll}
+use Rattle.writing.specs.declared.Passed.{Passed}
+use Rattle.writing.specs.declared.Passed as passed
 use Rattle.extract.specs.Concluding.{Concludes, GoesOn}
-use Rattle.extract.proofs.ConcludeLaws.{concludes-levels, concludes-rows}
+use Rattle.extract.proofs.ConcludeLaws.{concludes-levels, concludes-rows, concludes-text, kept-inside}
 
-module _ {o : ExtractOptions} {s : Bytes} {l : Layout} {left : List Bool} {m : Measured} (a : MeasuresAll o s l left m) where
-  pub rows-go-on : {depth rows : ℕ} → m .levels ≡ Counted depth rows → GoesOn (closed o (runOf s l o left))
-  rows-go-on e =
-      let g = levels-going (closed o (runOf s l o left)) (sym (a .levels) ∙ ap levelsIn e) in
-      record { state = g .0; goes-on = g .1 }
+module _ {o : ExtractOptions} {s : Bytes} {l : Layout} {left : List Bool} where
+  -- ---- what a pass gives
 
-  pub rows-need : (names : ℕ) {need : ℕ} → need ≡ greater (m .need) names → runOf s l o left .note .peak ≤ need
-  rows-need names e = omega (arith, e, a .need, greater-max (m .need) names)
+  module _ {write : Bool} {out out′ : Bytes} {m : Passed} (all : PassesAll o s l left write out m out′) where
+    text-passed : {need visits : ℕ} {w : Writer} → m ≡ passed.the-variants.Text need visits w → TextPassed o s l left write out need visits w out′
+    text-passed e = subst (λ (x : Passed). Outcome o s l left write out x out′) e (all .outcome)
 
-  -- work is as it was before the first pass
-  pub rows-filled : (names : ℕ) {need : ℕ} {out work measured out′ work′ : Bytes} {r : Extraction} → need ≡ greater (m .need) names → measured ≡ work
-      → Concludes need (m .visits) (closed o (runOf s l o left)) out measured r out′ work′
-      → Concludes (greater (runOf s l o left .note .peak) names) (length (passesOf s l left)) (closed o (runOf s l o left)) out work r out′ work′
-  rows-filled names {need} {out} {work} {measured} {out′} {work′} {r} e same k =
-      subst (λ (n : ℕ). Concludes (greater n names) (length (passesOf s l left)) (closed o (runOf s l o left)) out work r out′ work′) (a .need)
-      (subst (λ (n : ℕ). Concludes (greater (m .need) names) n (closed o (runOf s l o left)) out work r out′ work′) (a .visits)
-      (subst (λ (n : ℕ). Concludes n (m .visits) (closed o (runOf s l o left)) out work r out′ work′) e
-      (subst (λ (w : Bytes). Concludes need (m .visits) (closed o (runOf s l o left)) out w r out′ work′) same k)))
+    levels-refused : {line : ℕ} → m ≡ passed.the-variants.TooManyLevels line → PassRefused o s l left write out (tooManyLevels line) out′
+    levels-refused e = subst (λ (x : Passed). Outcome o s l left write out x out′) e (all .outcome)
 
-  module _ {line : ℕ} where
-    pub rows-levels : m .levels ≡ TooManyLevels line → (need passes : ℕ) {out work work′ : Bytes} → work′ ≡ work → Concludes need passes (closed o (runOf s l o left)) out work (ListLevels line) out work′
-    rows-levels e need passes {out} {work} same = rw same (concludes-levels need passes out work (levels-depth (closed o (runOf s l o left)) (sym (a .levels) ∙ ap levelsIn e)))
+    rows-refused : {line : ℕ} → m ≡ passed.the-variants.TooManyRows line → PassRefused o s l left write out (tooManyRows line) out′
+    rows-refused e = subst (λ (x : Passed). Outcome o s l left write out x out′) e (all .outcome)
 
-    pub rows-rows : m .levels ≡ TooManyRows line → (need passes : ℕ) {out work work′ : Bytes} → work′ ≡ work → Concludes need passes (closed o (runOf s l o left)) out work (OpenRows line) out work′
-    rows-rows e need passes {out} {work} same = rw same (concludes-rows need passes out work (levels-rows (closed o (runOf s l o left)) (sym (a .levels) ∙ ap levelsIn e)))
+  -- ---- the first pass, after which out is as it was
+
+  pub measure-ready : (out : Bytes) → WriteReady o s l left false out
+  measure-ready out q = absurd (true≢false (sym q))
+
+  module _ {out measured : Bytes} {m : Passed} (all : PassesAll o s l left false out m measured) where
+    module _ {texts visits : ℕ} {w : Writer} (e : m ≡ passed.the-variants.Text texts visits w) where
+      pub rows-go-on : GoesOn (closed o (runOf s l o left)) (w .peak)
+      rows-go-on = let t = text-passed all e in record { state = t .state; goes-on = t .run; longest = t .held .peak }
+
+      pub rows-filled : (names : ℕ) {need : ℕ} {work out′ work′ : Bytes} {r : Extraction} → need ≡ greater texts names → Concludes need visits (closed o (runOf s l o left)) measured work r out′ work′
+          → Concludes (greater (runOf s l o left .note .peak) names) (length (passesOf s l left)) (closed o (runOf s l o left)) out work r out′ work′
+      rows-filled names {need} {work} {out′} {work′} {r} n k =
+          let t = text-passed all e in
+          subst (λ (j : ℕ). Concludes (greater j names) (length (passesOf s l left)) (closed o (runOf s l o left)) out work r out′ work′) (t .need-is)
+          (subst (λ (j : ℕ). Concludes (greater texts names) j (closed o (runOf s l o left)) out work r out′ work′) (t .visits-is)
+          (subst (λ (j : ℕ). Concludes j visits (closed o (runOf s l o left)) out work r out′ work′) n
+          (subst (λ (b : Bytes). Concludes need visits (closed o (runOf s l o left)) b work r out′ work′) (t .held .still refl) k)))
+
+    module _ {line : ℕ} (need passes : ℕ) {work : Bytes} where
+      pub rows-levels : m ≡ passed.the-variants.TooManyLevels line → Concludes need passes (closed o (runOf s l o left)) out work (ListLevels line) measured work
+      rows-levels e = let t = levels-refused all e in rw (t .still refl) (concludes-levels need passes out work (t .run))
+
+      pub rows-rows : m ≡ passed.the-variants.TooManyRows line → Concludes need passes (closed o (runOf s l o left)) out work (OpenRows line) measured work
+      rows-rows e = let t = rows-refused all e in rw (t .still refl) (concludes-rows need passes out work (t .run))
+
+  -- ---- the second pass
+
+  module _ {peak : ℕ} {out : Bytes} (g : GoesOn (closed o (runOf s l o left)) peak) where
+    pub write-ready : peak ≤ length out → WriteReady o s l left true out
+    write-ready fits q = record { state = g .state; run = g .goes-on; fits = omega (arith, fits, g .longest) }
+
+    module _ {written : Bytes} {m : Passed} (all : PassesAll o s l left true out m written) where
+      module _ {texts visits : ℕ} {w : Writer} (e : m ≡ passed.the-variants.Text texts visits w) where
+        pub written-inside : w .kept ≤ length written
+        written-inside = kept-inside (text-passed all e .held)
+
+        pub rows-written : {need passes : ℕ} {work out′ work′ : Bytes} → need ≤ length work → peak ≤ length out → work′ ≡ take 0 work ++ replicate (length work - 0) 0
+            → out′ ≡ take (w .kept) written ++ replicate (length written - w .kept) 0 → Concludes need passes (closed o (runOf s l o left)) out work (Text passes (w .kept)) out′ work′
+        rows-written {need} {passes} {work} h fits zeros text-is =
+            let t = text-passed all e in
+            let same : g .state ≡ t .state = cc (g .goes-on, t .run) in
+            concludes-text need passes out work (t .run) h (g .longest ∙ ap (λ (S : State). S .out .peak) same) zeros fits (t .held) text-is
+
+      -- no limit is passed
+      pub not-levels : {A : Type 0} {line : ℕ} → m ≡ passed.the-variants.TooManyLevels line → A
+      not-levels e = let t = levels-refused all e in let clash : true ≡ false = cc (g .goes-on, t .run) in absurd (true≢false clash)
+
+      pub not-rows : {A : Type 0} {line : ℕ} → m ≡ passed.the-variants.TooManyRows line → A
+      not-rows e = let t = rows-refused all e in let clash : true ≡ false = cc (g .goes-on, t .run) in absurd (true≢false clash)

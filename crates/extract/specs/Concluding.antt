@@ -16,10 +16,11 @@ pub record Concludes (need passes : ℕ) (R : Run) (out work : Bytes) (r : Extra
   pub out-is : out′ ≡ outThen need passes R out work
   pub work-is : work′ ≡ workThen need passes R work
 
--- no entry is refused
-pub record GoesOn (R : Run) : Type 0 where
+-- no entry is refused, and the text is never longer than `peak`
+pub record GoesOn (R : Run) (peak : ℕ) : Type 0 where
   pub state : State
   pub goes-on : R ≡ going state
+  pub longest : peak ≡ state .out .peak
 
 -- what `work` must hold beside the entries' texts
 abbrev pub namesNeed : Page → ExtractOptions → ℕ

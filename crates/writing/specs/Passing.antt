@@ -129,7 +129,10 @@ module _ (o : ExtractOptions) (s : Bytes) (l : Layout) (left : List Bool) where
     pub run : closed o (runOf s l o left) ≡ R
     pub still : write ≡ false → out′ ≡ out
 
-  abbrev pub PassesAll : Bool → Bytes → Passed → Bytes → Type 0
-  PassesAll write out (Text need visits w) out′ = TextPassed write out need visits w out′
-  PassesAll write out (TooManyLevels line) out′ = PassRefused write out (tooManyLevels line) out′
-  PassesAll write out (TooManyRows line) out′ = PassRefused write out (tooManyRows line) out′
+  abbrev pub Outcome : Bool → Bytes → Passed → Bytes → Type 0
+  Outcome write out (Text need visits w) out′ = TextPassed write out need visits w out′
+  Outcome write out (TooManyLevels line) out′ = PassRefused write out (tooManyLevels line) out′
+  Outcome write out (TooManyRows line) out′ = PassRefused write out (tooManyRows line) out′
+
+  pub record PassesAll (write : Bool) (out : Bytes) (r : Passed) (out′ : Bytes) : Type 0 where
+    pub outcome : Outcome write out r out′

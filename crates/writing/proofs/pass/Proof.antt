@@ -50,7 +50,7 @@ same-length-4 : tie.Need-same-length-4 Inv-loop μ-loop
 same-length-4 c = c .before .before .before .before .before .before .before .before .before .before .loop .inv .passes .stands .held .long
 
 returns : tie.Need-returns Inv-loop μ-loop
-returns c = refused-levels (c .before .before .before .before .before .before .before .before .before .before .loop .inv) (c .before .before .before .before .before .before .before .before .see .last .1 .1 .1 .1 .1 .1 .1 .1 .0) (c .before .before .before .before .before .before .before .before .see .ensures) (c .before .before .before .before .seen .given .1) (sym (c .before .before .passes-levels .ensures) ∙ c .before .if1 .taken)
+returns c = record { outcome = refused-levels (c .before .before .before .before .before .before .before .before .before .before .loop .inv) (c .before .before .before .before .before .before .before .before .see .last .1 .1 .1 .1 .1 .1 .1 .1 .0) (c .before .before .before .before .before .before .before .before .see .ensures) (c .before .before .before .before .seen .given .1) (sym (c .before .before .passes-levels .ensures) ∙ c .before .if1 .taken) }
 
 passes-rows-requires : tie.Need-passes-rows-requires Inv-loop μ-loop
 passes-rows-requires c κs = search needs
@@ -71,7 +71,7 @@ same-length-8 : tie.Need-same-length-8 Inv-loop μ-loop
 same-length-8 c = c .before .before .before .before .before .before .before .before .before .before .before .before .loop .inv .passes .stands .held .long
 
 returns-2 : tie.Need-returns-2 Inv-loop μ-loop
-returns-2 c = refused-rows (c .before .before .before .before .before .before .before .before .before .before .before .before .loop .inv) (c .before .before .before .before .before .before .before .before .before .before .see .last .1 .1 .1 .1 .1 .1 .1 .1 .0) (c .before .before .before .before .before .before .before .before .before .before .see .ensures) (c .before .before .before .before .before .before .seen .given .1) (sym (c .before .before .before .before .passes-levels .ensures) ∙ c .before .before .before .if1 .left) (sym (c .before .before .passes-rows .ensures) ∙ c .before .if2 .taken)
+returns-2 c = record { outcome = refused-rows (c .before .before .before .before .before .before .before .before .before .before .before .before .loop .inv) (c .before .before .before .before .before .before .before .before .before .before .see .last .1 .1 .1 .1 .1 .1 .1 .1 .0) (c .before .before .before .before .before .before .before .before .before .before .see .ensures) (c .before .before .before .before .before .before .seen .given .1) (sym (c .before .before .before .before .passes-levels .ensures) ∙ c .before .before .before .if1 .left) (sym (c .before .before .passes-rows .ensures) ∙ c .before .if2 .taken) }
 
 pass-visit-requires : tie.Need-pass-visit-requires Inv-loop μ-loop
 pass-visit-requires c κs = visit-ready (c .before .before .before .before .before .before .before .before .before .before .before .before .before .before .loop .inv) (c .before .before .before .before .before .before .before .before .before .before .before .before .see .last .1 .1 .1 .1 .1 .1 .1 .1 .0) (c .before .before .before .before .before .before .before .before .before .before .before .before .see .ensures) (c .before .before .before .before .before .before .before .before .seen .given .1) (sym (c .before .before .before .before .before .before .passes-levels .ensures) ∙ c .before .before .before .before .before .if1 .left) (sym (c .before .before .before .before .passes-rows .ensures) ∙ c .before .before .before .if2 .left) (c .before .before .before .before .before .before .before .before .before .before .before .before .before .before .before .before .before .before .before .before .before .before .before .before .before .before .before .pre .1 .1)
@@ -113,7 +113,7 @@ same-length-12 : tie.Need-same-length-12 Inv-loop μ-loop
 same-length-12 c = c .before .before .before .before .before .before .before .loop .inv .passes .stands .held .long
 
 returns-3 : tie.Need-returns-3 Inv-loop μ-loop
-returns-3 c = passing-end (c .before .before .before .before .before .before .before .loop .inv) (c .before .before .before .before .before .see .last .1 .1 .1 .1 .1 .1 .1 .1 .0) (c .before .before .before .before .before .see .ensures) (c .before .enum-told .given .1)
+returns-3 c = record { outcome = passing-end (c .before .before .before .before .before .before .before .loop .inv) (c .before .before .before .before .before .see .last .1 .1 .1 .1 .1 .1 .1 .1 .0) (c .before .before .before .before .before .see .ensures) (c .before .enum-told .given .1) }
 
 pub pass-spec : {M : Type 1} → statement M
 pass-spec =
