@@ -28,13 +28,32 @@ fn eight_at(s: &[u8], at: usize) -> usize
     ((a * 10 + b) * 100 + (c * 10 + d)) * 10000 + ((e * 10 + f) * 100 + (g * 10 + h))
 }
 
+// The same, by one look where there is one digit behind seven spaces, as in most columns.
+fn eight_digits(s: &[u8], at: usize) -> usize
+    requires { ⌜ (at + 8 ≤ length (now s)) × InColumns 8 (now s) at ⌝ }
+    ensures { λ r. ⌜ r ≡ numberAt 8 (now (s .entry)) at ⌝ }
+{
+    let w = common::word_at(s, at);
+    if w % 0x100000000000000 != 0x20202020202020 {
+        return eight_at(s, at);
+    }
+    let b = w / 0x100000000000000;
+    if b < 48 {
+        return 0;
+    }
+    if b > 57 {
+        return 0;
+    }
+    b - 48
+}
+
 // The number in the width columns at at.
 fn digits_at(s: &[u8], at: usize, width: usize) -> usize
     requires { ⌜ (at + width ≤ length (now s)) × (width ≤ 10) × InColumns width (now s) at ⌝ }
     ensures { λ r. ⌜ r ≡ numberAt width (now (s .entry)) at ⌝ }
 {
     if width == 8 {
-        return eight_at(s, at);
+        return eight_digits(s, at);
     }
     let end = at + width;
     let mut n = 0;

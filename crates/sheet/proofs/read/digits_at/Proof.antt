@@ -19,13 +19,13 @@ Inv-loop s at width end n₀ i₀ n i = (at ≤ i) × (i ≤ end) × (n + 2 ≤ 
 abbrev μ-loop : tie.MeasureT-loop
 μ-loop s at width end n₀ i₀ n i = end - i
 
-eight-at-requires : tie.Need-eight-at-requires Inv-loop μ-loop
-eight-at-requires c κs =
+eight-digits-requires : tie.Need-eight-digits-requires Inv-loop μ-loop
+eight-digits-requires c κs =
     let p = c .before .before .pre in
     (omega (arith, p .0, c .if1 .taken), subst (λ (w : ℕ). InColumns w (now (c .before .before .args .s)) (c .before .before .args .at)) (c .if1 .taken) (p .2))
 
 returns : tie.Need-returns Inv-loop μ-loop
-returns c = let a = c .before .before .before .args in c .eight-at .ensures ∙ ap (λ (w : ℕ). numberAt w (now (a .s)) (a .at)) (sym (c .before .if1 .taken))
+returns c = let a = c .before .before .before .args in c .eight-digits .ensures ∙ ap (λ (w : ℕ). numberAt w (now (a .s)) (a .at)) (sym (c .before .if1 .taken))
 
 add-end : tie.Need-add-end Inv-loop μ-loop
 add-end c = search needs
@@ -68,7 +68,7 @@ digits-at-spec =
     (tie.spec
     Inv-loop
     μ-loop
-    eight-at-requires
+    eight-digits-requires
     returns
     add-end
     loop-holds
