@@ -3,19 +3,13 @@ use Rattle.extract.proofs.ColumnLaws.{names-asked, names-not-asked}
 use borrow.Author.Needs.{needs}
 use Rattle.extract.proofs.accepted.names_need.Statement.{statement}
 use Rattle.extract.proofs.accepted.names_need.Tie as tie
-use Rattle.extract.proofs.accepted.names_need.Reads as reads
-use Rattle.extract.proofs.accepted.names_need.Lts as lts
-use Rattle.walk.proofs.names.longest_names.Reads as longest-names-reads
 
--- src/accepted.rt:24:9
 longest-names-requires : tie.Need-longest-names-requires
 longest-names-requires c κs = search needs
 
--- src/accepted.rt:24:9
 returns : tie.Need-returns
 returns c = names-asked _ _ (c .before .before .before .args .o) (c .before .if1 .taken) (c .longest-names .ensures)
 
--- src/accepted.rt:19:1
 returns-2 : tie.Need-returns-2
 returns-2 c = names-not-asked _ _ (c .before .before .args .o) (c .if1 .left)
 

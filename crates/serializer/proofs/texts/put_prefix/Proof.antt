@@ -1,56 +1,42 @@
+-- `put_prefix` meets its contract.
 use Rattle.common.specs.Bytes.{codes}
 use Rattle.writer.proofs.DoesLaws.{ready-same, does-same, does-nothing, does-append, ready-left, ready-right}
 use Rattle.serializer.proofs.TextLaws.{prefix-none, prefix-bullet, prefix-number}
 use borrow.Author.Needs.{needs}
 use Rattle.serializer.proofs.texts.put_prefix.Statement.{statement}
 use Rattle.serializer.proofs.texts.put_prefix.Tie as tie
-use Rattle.serializer.proofs.texts.put_prefix.Reads as reads
-use Rattle.serializer.proofs.texts.put_prefix.Lts as lts
-use Rattle.writer.proofs.put.Reads as put-reads
-use Rattle.writer.proofs.put_number.Reads as put-number-reads
 
--- src/texts.rt:98:9
 returns : tie.Need-returns
 returns c = does-nothing (prefix-none _ (c .if1 .taken))
 
--- src/texts.rt:101:31
 slice-aggregate-put : tie.Need-slice-aggregate-put
 slice-aggregate-put c = search needs
 
--- src/texts.rt:101:9
 put-requires : tie.Need-put-requires
 put-requires c κs = ready-same (prefix-bullet _ (c .before .before .if2 .taken)) (c .before .before .before .before .before .pre)
 
--- src/texts.rt:101:9
 same-length : tie.Need-same-length
 same-length c = search needs
 
--- src/texts.rt:101:9
 returns-2 : tie.Need-returns-2
 returns-2 c = does-same (prefix-bullet _ (c .before .before .before .before .before .if2 .taken)) (c .before .before .put .ensures)
 
--- src/texts.rt:103:35
 sub-put-number : tie.Need-sub-put-number
 sub-put-number c = search needs
 
--- src/texts.rt:103:9
 put-number-requires : tie.Need-put-number-requires
 put-number-requires c κs = ready-left _ _ (ready-same (prefix-number _ (c .before .before .if1 .left) (c .before .if2 .left)) (c .before .before .before .before .pre))
 
--- src/texts.rt:104:20
 slice-aggregate-put-2 : tie.Need-slice-aggregate-put-2
 slice-aggregate-put-2 c = search needs
 
--- src/texts.rt:104:5
 put-requires-2 : tie.Need-put-requires-2
 unfolding codes
 put-requires-2 c κs = ready-right _ _ (c .before .before .before .before .put-number .ensures) (ready-same (prefix-number _ (c .before .before .before .before .before .before .before .if1 .left) (c .before .before .before .before .before .before .if2 .left)) (c .before .before .before .before .before .before .before .before .before .pre))
 
--- src/texts.rt:93:1
 same-length-2 : tie.Need-same-length-2
 same-length-2 c = search needs
 
--- src/texts.rt:93:1
 returns-3 : tie.Need-returns-3
 unfolding codes
 returns-3 c = does-same (prefix-number _ (c .before .before .before .before .before .before .before .before .before .before .if1 .left) (c .before .before .before .before .before .before .before .before .before .if2 .left)) (does-append _ _ (c .before .before .before .before .before .before .before .put-number .ensures) (c .before .before .put2 .ensures))

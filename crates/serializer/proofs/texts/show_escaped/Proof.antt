@@ -1,3 +1,4 @@
+-- `show_escaped` meets its contract.
 use mathlib.Core.Path.{_≡_, ap, _∙_}
 use Prim.Native.Nat.{ℕ, _+_}
 use native.Mathlib.Omega.{arith}
@@ -7,48 +8,31 @@ use Rattle.serializer.proofs.ShowingLaws.{any-escape, showing-escaped, 
 use borrow.Author.Needs.{needs}
 use Rattle.serializer.proofs.texts.show_escaped.Statement.{statement}
 use Rattle.serializer.proofs.texts.show_escaped.Tie as tie
-use Rattle.serializer.proofs.texts.show_escaped.Reads as reads
-use Rattle.serializer.proofs.texts.show_escaped.Lts as lts
-use Rattle.serializer.proofs.texts.show_escaped_piece.Reads as show-escaped-piece-reads
-use Rattle.serializer.proofs.texts.showing_after.Reads as showing-after-reads
-use Rattle.serializer.proofs.texts.shows.Reads as shows-reads
-use Rattle.serializer.proofs.texts.space_after.Reads as space-after-reads
-use Rattle.text.proofs.escaped_len.Reads as escaped-len-reads
-use Rattle.writer.proofs.greater.Reads as greater-reads
 
--- src/texts.rt:305:9
 shows-requires : tie.Need-shows-requires
 shows-requires c κs = search needs
 
--- src/texts.rt:306:9
 show-escaped-piece-requires : tie.Need-show-escaped-piece-requires
 show-escaped-piece-requires c κs = (c .before .shows .ensures ∙ any-escape (c .before .before .before .before .before .args .p .showing) (c .before .before .before .before .before .args .piece .now), c .before .before .before .before .before .pre .able)
 
--- src/texts.rt:307:41
 space-after-requires : tie.Need-space-after-requires
 space-after-requires c κs = search needs
 
--- src/texts.rt:307:9
 showing-after-requires : tie.Need-showing-after-requires
 showing-after-requires c κs = search needs
 
--- src/texts.rt:308:23
 escaped-len-requires : tie.Need-escaped-len-requires
 escaped-len-requires c κs = search needs
 
--- src/texts.rt:308:15
 add-len : tie.Need-add-len
 add-len c = omega (arith, uncapped (c .before .before .before .before .before .before .before .before .before .before .before .before .args .p .len) (escape (c .before .before .before .before .before .before .before .before .before .before .before .before .args .piece .now)) (c .before .escaped-len .ensures) (c .before .before .before .before .before .before .before .before .before .before .before .before .pre .small), c .before .before .before .before .before .before .before .before .before .before .before .before .pre .small)
 
--- src/texts.rt:309:9
 greater-requires : tie.Need-greater-requires
 greater-requires c κs = search needs
 
--- src/texts.rt:293:1
 same-length : tie.Need-same-length
 same-length c = search needs
 
--- src/texts.rt:293:1
 returns : tie.Need-returns
 returns c = let a = c .before .before .before .before .before .before .before .before .before .before .before .before .before .args in let e = uncapped (c .before .before .before .before .before .before .before .before .before .before .before .before .before .args .p .len) (escape (c .before .before .before .before .before .before .before .before .before .before .before .before .before .args .piece .now)) (c .before .before .escaped-len .ensures) (c .before .before .before .before .before .before .before .before .before .before .before .before .before .pre .small) in record { works = c .before .before .before .before .before .before .before .show-escaped-piece .ensures; showing = c .before .before .before .showing-after .ensures ∙ rw (c .before .before .before .before .before .before .before .before .before .shows .ensures, c .before .before .before .before .space-after .ensures) (showing-escaped (a .p .showing) (a .piece .now)); len = ap (λ (n : ℕ). a .p .len + n) e; need = c .greater .ensures ∙ ap (λ (n : ℕ). greater (a .p .need) (a .p .len + n)) e }
 

@@ -1,36 +1,26 @@
+-- `show_escaped_piece` meets its contract.
 use Rattle.serializer.proofs.ShowingLaws.{show-none, piece-able, piece-works}
 use Rattle.serializer.proofs.TextLaws.{rises-show, show-ready, show-works}
 use Rattle.serializer.proofs.WorksLaws.{out-first, out-able, out-then}
 use borrow.Author.Needs.{needs}
 use Rattle.serializer.proofs.texts.show_escaped_piece.Statement.{statement}
 use Rattle.serializer.proofs.texts.show_escaped_piece.Tie as tie
-use Rattle.serializer.proofs.texts.show_escaped_piece.Reads as reads
-use Rattle.serializer.proofs.texts.show_escaped_piece.Lts as lts
-use Rattle.serializer.proofs.texts.is_silent.Reads as is-silent-reads
-use Rattle.serializer.proofs.texts.lead_in.Reads as lead-in-reads
-use Rattle.serializer.proofs.texts.put_escaped.Reads as put-escaped-reads
 
--- src/texts.rt:282:8
 is-silent-requires : tie.Need-is-silent-requires
 is-silent-requires c κs = search needs
 
--- src/texts.rt:283:9
 returns : tie.Need-returns
 returns c = show-none _ _ _ _ (c .before .before .before .before .pre .0) (c .before .is-silent .ensures) (c .if1 .taken)
 
--- src/texts.rt:285:9
 lead-in-requires : tie.Need-lead-in-requires
 lead-in-requires c κs = out-first (rises-show _ _ _ _) (piece-able _ _ _ _ (c .before .before .before .before .before .pre .0) (c .before .before .is-silent .ensures) (c .before .if1 .left) (c .before .before .before .before .before .pre .1))
 
--- src/texts.rt:286:9
 put-escaped-requires : tie.Need-put-escaped-requires
 put-escaped-requires c κs = show-ready _ _ _ _ (out-able (c .before .before .before .lead-in .ensures) (piece-able _ _ _ _ (c .before .before .before .before .before .before .before .before .before .pre .0) (c .before .before .before .before .before .before .is-silent .ensures) (c .before .before .before .before .before .if1 .left) (c .before .before .before .before .before .before .before .before .before .pre .1)))
 
--- src/texts.rt:268:1
 same-length : tie.Need-same-length
 same-length c = search needs
 
--- src/texts.rt:268:1
 returns-2 : tie.Need-returns-2
 returns-2 c = piece-works _ _ _ _ (c .before .before .before .before .before .before .before .before .before .before .before .before .pre .0) (c .before .before .before .before .before .before .before .before .before .is-silent .ensures) (c .before .before .before .before .before .before .before .before .if1 .left) (out-then (c .before .before .before .before .before .before .lead-in .ensures) (show-works _ _ _ _ (c .before .before .put-escaped .ensures)))
 

@@ -1,29 +1,22 @@
+-- `space_after` meets its contract.
 use mathlib.Core.Path.{sym, _∙_}
 use Rattle.serializer.proofs.ShowingLaws.{space-last, space-none}
 use borrow.Author.Needs.{needs}
 use Rattle.serializer.proofs.texts.space_after.Statement.{statement}
 use Rattle.serializer.proofs.texts.space_after.Tie as tie
-use Rattle.serializer.proofs.texts.space_after.Reads as reads
-use Rattle.serializer.proofs.texts.space_after.Lts as lts
-use Rattle.text.proofs.is_space.Reads as is-space-reads
 
--- src/texts.rt:212:9
 returns : tie.Need-returns
 returns c = let a = c .before .before .args in sym (space-none (a .space) (a .piece .now) (c .if1 .taken))
 
--- src/texts.rt:214:26
 sub-is-space : tie.Need-sub-is-space
 sub-is-space c = search needs
 
--- src/texts.rt:214:20
 shared-slice-read-is-space : tie.Need-shared-slice-read-is-space
 shared-slice-read-is-space c = search needs
 
--- src/texts.rt:214:5
 is-space-requires : tie.Need-is-space-requires
 is-space-requires c κs = search needs
 
--- src/texts.rt:207:1
 returns-2 : tie.Need-returns-2
 returns-2 c = let a = c .before .before .before .before .args in c .is-space .ensures ∙ sym (space-last (a .space) (a .piece .now) (c .before .before .if1 .left))
 
