@@ -144,6 +144,19 @@ fn wide(rows: usize) -> Vec<u8> {
     w.bytes()
 }
 
+/// Footers, one beside the other, in two divs: each is asked for what stands behind it and behind the rows above it.
+fn footers(rows: usize) -> Vec<u8> {
+    let random = &mut Random(8);
+    let mut w = page();
+    w.element(1, "div", &[]);
+    w.element(2, "div", &[]);
+    while w.counts[0] + 2 < rows {
+        w.element(3, "footer", &[]);
+        w.text(4, &prose(random, 6));
+    }
+    w.bytes()
+}
+
 fn tables() -> Vec<u8> {
     let random = &mut Random(3);
     let mut w = page();
@@ -329,6 +342,9 @@ fn main() {
         measure(&format!("wide, {}, main_content", rows), one(main_content, wide(rows)));
         measure(&format!("deep, {}", rows), one(standing, deep(rows)));
         measure(&format!("deep, {}, main_content", rows), one(main_content, deep(rows)));
+    }
+    for rows in [5_000, 10_000, 20_000] {
+        measure(&format!("footers, {}, main_content", rows), one(main_content, footers(rows)));
     }
     measure("tables", one(standing, tables()));
     measure("lists", one(standing, lists()));
