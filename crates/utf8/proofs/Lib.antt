@@ -1,5 +1,6 @@
 pub mod Encodings
 pub mod Following
 pub mod Grammar
+pub mod Parts
 pub mod Reading
 pub mod Words

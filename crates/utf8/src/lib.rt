@@ -2,10 +2,10 @@
 ghost use mathlib.Core.Bool.{true};
 ghost use mathlib.Core.Path.{_≡_};
 ghost use Prim.Native.Nat.{_+_, _<_, _≤_};
-ghost use lib.ListN.{getD, length};
+ghost use lib.ListN.{drop, getD, length, take};
 ghost use Rattle.utf8.specs.Abnf.{UTF8-char, UTF8-tail};
 ghost use Rattle.utf8.specs.State.{Ascii, Passed, ranges};
-ghost use Rattle.utf8.specs.Valid.{follow, valid, within};
+ghost use Rattle.utf8.specs.Valid.{between, follow, valid, within};
 
 // What has to come before the next character: count octets, the first from low to high, the others tails.
 struct Expected {
@@ -199,4 +199,29 @@ pub fn valid(s: &[u8]) -> bool
         i = next;
     }
     true
+}
+
+// Whether a place of UTF-8 stands between two characters, or at an end: no tail is there.
+fn is_between(s: &[u8], i: usize) -> bool
+    requires { ⌜ i ≤ length (now s) ⌝ }
+    ensures { λ r. ⌜ r ≡ between (now (s .entry)) i ⌝ }
+{
+    if i == s.len() {
+        return true;
+    }
+    !is_tail(s[i])
+}
+
+// Whether a part of UTF-8 is UTF-8, without reading it: it is where it is empty, or begins and ends between two characters.
+pub fn valid_part(s: &[u8], at: usize, len: usize) -> bool
+    requires { ⌜ (valid (now s) ≡ true) × (at + len ≤ length (now s)) ⌝ }
+    ensures { λ r. ⌜ r ≡ valid (take len (drop at (now (s .entry)))) ⌝ }
+{
+    if len == 0 {
+        return true;
+    }
+    if !is_between(s, at) {
+        return false;
+    }
+    is_between(s, at + len)
 }
