@@ -32,6 +32,14 @@ pub bit-small : (p : Bool) {blank : ℕ} → blank ≡ cond p 1 0 → blank ≤ 
 bit-small true e = omega arith
 bit-small false e = omega arith
 
+pub bit-blank : (p : Bool) (c : ℕ) {blank : ℕ} → blank ≡ cond p 1 0 → blank ≡ 1 → 32 ≡ cond p 32 c
+bit-blank true c e t = refl
+bit-blank false c e t = absurd (omega arith)
+
+pub bit-other : (p : Bool) (c : ℕ) {blank : ℕ} → blank ≡ cond p 1 0 → (blank ≡ 1 → ⊥) → c ≡ cond p 32 c
+bit-other true c e n = absurd (n e)
+bit-other false c e n = refl
+
 -- what is taken from a byte's one place
 pub taken-back : (p : Bool) (c blank last : ℕ) → blank ≡ cond p 1 0 → last ≤ 1 → bitAnd blank last + length (squeezed p (eqb last 1) c) ≡ 1
 taken-back p c blank last e h = rw e (go p last h)

@@ -217,19 +217,19 @@ fn put_bytes(
 }
 
 // How many bytes a byte adds to a squeezed text, by whether it is a blank and whether one stood before it.
-fn added(table: &[u8; 768], b: u8, blank: u8, last: u8, escapes: bool) -> usize
-    requires { ⌜ (blank ≡ cond (isSpace b) 1 0) × (last ≤ 1) × ByteTable (now table) ⌝ }
+fn added(b: u8, blank: u8, last: u8, escapes: bool) -> usize
+    requires { ⌜ (blank ≡ cond (isSpace b) 1 0) × (last ≤ 1) ⌝ }
     ensures { λ r. ⌜ r ≡ length (shownByte (isSpace b) (eqb last 1) escapes b) ⌝ }
 {
     let less = (blank & last) as usize;
     if escapes {
-        return table::size(table, b) as usize - less;
+        return table::size(b) as usize - less;
     }
     1 - less
 }
 
 // The length of a squeezed text.
-fn squeezed_len(table: &[u8; 768], s: &[u8], escapes: bool) -> usize
+fn squeezed_len(table: &[u8; 256], s: &[u8], escapes: bool) -> usize
     requires { ⌜ (length (shown true false escapes (now s)) < 9223372036854775808) × ByteTable (now table) ⌝ }
     ensures { λ r. ⌜ r ≡ length (shown true false escapes (now (s .entry))) ⌝ }
 {
@@ -239,7 +239,7 @@ fn squeezed_len(table: &[u8; 768], s: &[u8], escapes: bool) -> usize
     while i < s.len() {
         let b = s[i];
         let blank = table::blank(table, b);
-        n += added(table, b, blank, last, escapes);
+        n += added(b, blank, last, escapes);
         last = blank;
         i += 1;
     }
@@ -248,7 +248,7 @@ fn squeezed_len(table: &[u8; 768], s: &[u8], escapes: bool) -> usize
 
 // A byte of a squeezed text; the place past it. A blank behind a blank is stored where that one stands.
 fn store_squeezed(
-    table: &[u8; 768],
+    table: &[u8; 256],
     out: &mut [u8],
     past: usize,
     b: u8,
@@ -265,7 +265,7 @@ fn store_squeezed(
 
 // The same, escaped where asked.
 fn store_next(
-    table: &[u8; 768],
+    table: &[u8; 256],
     out: &mut [u8],
     past: usize,
     b: u8,
@@ -277,7 +277,7 @@ fn store_next(
     ensures { λ r. ⌜ Puts (now (out .entry)) past (shownByte (isSpace b) (eqb last 1) escapes b) (now (out .exit)) r × Behind blank (now (out .exit)) r ⌝ }
 {
     if escapes {
-        if table::size(table, b) != 1 {
+        if table::size(b) != 1 {
             return text::put_entity(out, past, b);
         }
         return store_squeezed(table, out, past, b, blank, last);
@@ -286,7 +286,7 @@ fn store_next(
 }
 
 // A squeezed text to at and on; the place past it.
-fn store_shown(table: &[u8; 768], out: &mut [u8], at: usize, s: &[u8], escapes: bool) -> usize
+fn store_shown(table: &[u8; 256], out: &mut [u8], at: usize, s: &[u8], escapes: bool) -> usize
     requires { ⌜ (at + length (shown true false escapes (now s)) ≤ length (now out)) × ByteTable (now table) ⌝ }
     ensures { λ r. ⌜ Puts (now (out .entry)) at (shown true false escapes (now (s .entry))) (now (out .exit)) r ⌝ }
 {
@@ -322,7 +322,7 @@ fn put_squeezed(w: Writer, s: &[u8], escapes: bool, out: &mut [u8], write: bool)
     requires { ⌜ Ready write w (now out) (pushAll (shown true false escapes (now s))) ⌝ }
     ensures { λ r. ⌜ Does write w (now (out .entry)) r (now (out .exit)) (pushAll (shown true false escapes (now (s .entry)))) ⌝ }
 {
-    if s.len() < 16 {
+    if s.len() < 8 {
         return put_bytes(w, s, true, false, escapes, out, write);
     }
     let n = text::rstrip(s);

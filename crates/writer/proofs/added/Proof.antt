@@ -11,7 +11,7 @@ cast-less : tie.Need-cast-less
 cast-less c = omega (arith, taken-back (isSpace (c .args .b)) (c .args .b) (c .args .blank) (c .args .last) (c .pre .0) (c .pre .1))
 
 size-requires : tie.Need-size-requires
-size-requires c κs = c .before .pre .2
+size-requires c κs = search needs
 
 cast-result : tie.Need-cast-result
 cast-result c = search needs

@@ -29,7 +29,7 @@ blank-requires : tie.Need-blank-requires Inv-loop μ-loop
 blank-requires c κs = c .before .before .before .before .pre .1
 
 added-requires : tie.Need-added-requires Inv-loop μ-loop
-added-requires c κs = (c .blank .ensures, c .before .before .before .loop .inv .1, c .before .before .before .before .before .pre .1)
+added-requires c κs = (c .blank .ensures, c .before .before .before .loop .inv .1)
 
 add-n : tie.Need-add-n Inv-loop μ-loop
 add-n c = omega (arith, squeezed-count _ _ _ _ _ _ (c .before .before .before .loop-test .taken) (c .before .blank .ensures) (c .added .ensures) (c .before .before .before .before .loop .inv .2), c .before .before .before .before .before .before .pre .0)

@@ -7,7 +7,7 @@ use Rattle.writer.proofs.store_next.Statement.{statement}
 use Rattle.writer.proofs.store_next.Tie as tie
 
 size-requires : tie.Need-size-requires
-size-requires c κs = c .before .before .pre .3
+size-requires c κs = search needs
 
 put-entity-requires : tie.Need-put-entity-requires
 put-entity-requires c κs = rw (c .before .before .before .if1 .taken, byte-entity _ _ (λ e. c .before .if2 .taken (c .before .before .size .ensures ∙ e))) at (c .before .before .before .before .before .pre .2)
