@@ -1,4 +1,4 @@
--- From the columns of `read_rows` and the rows that are left out to what the passes ask for, and to the page's extraction.
+-- From the columns of `take_rows` and the rows that are left out to what the passes ask for, and to the page's extraction.
 use mathlib.Core.Path.{_≡_, sym, ap, _∙_}
 use mathlib.Core.Bool.{Bool, true, false}
 use mathlib.Core.List.{List}
@@ -53,17 +53,3 @@ module _ (s : Bytes) (l : Layout) (o : ExtractOptions) (left : List Bool) (agree
   rows-extract n k =
       let h = hidden (filtered (pageOf s l) o) (pageOf s l) o in
       extracts s l o (filtered (pageOf s l) o) left (events-of-passes s l left h agree) (visits-of-passes s l left h agree) n k
-
--- columns of the same lengths
-pub columns-same : {n : ℕ} (ds ts fs vs ls : List ℕ) (bs : List Bool) (ds′ ts′ fs′ vs′ ls′ : List ℕ) (bs′ : List Bool) → Columns n ds ts fs vs ls bs
-    → length ds′ ≡ length ds → length ts′ ≡ length ts → length fs′ ≡ length fs → length vs′ ≡ length vs → length ls′ ≡ length ls → length bs′ ≡ length bs
-    → Columns n ds′ ts′ fs′ vs′ ls′ bs′
-columns-same ds ts fs vs ls bs ds′ ts′ fs′ vs′ ls′ bs′ room d t f v l b =
-    record {
-      depths-long = omega (arith, d, room .depths-long);
-      tags-long = omega (arith, t, room .tags-long);
-      attributes-long = omega (arith, f, room .attributes-long);
-      values-long = omega (arith, v, room .values-long);
-      lengths-long = omega (arith, l, room .lengths-long);
-      left-long = omega (arith, b, room .left-long);
-    }

@@ -1,3 +1,4 @@
+pub mod AnswerLaws
 pub mod ColumnLaws
 pub mod ConcludeLaws
 pub mod ExtractLaws

@@ -1,3 +1,3 @@
-// The extraction of an accepted sheet: what is noted of its rows, the passes over them, and the answer.
-pub mod accepted;
+// The extraction of a sheet: what is noted of its rows, the passes over them, and the answer.
 pub mod passes;
+pub mod sized;

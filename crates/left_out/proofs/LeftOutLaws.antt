@@ -135,7 +135,7 @@ left-as-noted {s} {l} o {left} a n off =
     let rows = depths-from-length s l 0 (l .nodes) in
     agree-tree (depths s l) (l .root) (flagged left) (leftOutAt s l o) (omega (arith, a .sized .root)) (λ j h. n .noted j (omega arith) ∙ without-filters s l o j off)
 
--- ---- the columns of `read_rows`
+-- ---- the columns of `take_rows`
 
 module _ {s : Bytes} {l : Layout} {ds ts fs vs ls : List ℕ} {bs : List Bool} (room : Columns (l .nodes) ds ts fs vs ls bs) (read : RowsRead s l (l .nodes) ds ts fs vs ls bs) where
   pub noted : Accepted s l → Noted s l (take (l .nodes) ds) ts fs

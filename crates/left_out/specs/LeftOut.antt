@@ -41,7 +41,7 @@ module _ (s : Bytes) (l : Layout) where
   abbrev pub bodyDepth : ℕ
   bodyDepth = getD (depths s l) (bodyAbove (nodeAt s l) (depths s l) (l .root)) 0
 
-  -- the columns of `read_rows`; that of the depths has no row more
+  -- the columns of `take_rows`; that of the depths has no row more
   pub record Noted (column tags attributes : List ℕ) : Type 0 where
     pub accepted : Accepted s l
     pub depths-are : column ≡ depths s l

@@ -1,22 +1,25 @@
 -- What is extracted from an accepted sheet, or refused, is the answer to the byte string.
 use mathlib.Core.Path.{_≡_, refl, sym, ap, subst, _∙_}
-use mathlib.Core.Bool.{Bool}
+use mathlib.Core.Bool.{Bool, true, false}
 use Prim.Native.Nat.{ℕ}
+use lib.Dec.{lit≤}
 use lib.ListN.{length}
 use Rattle.common.specs.Bytes.{Bytes}
-use Rattle.extract.specs.Concluding.{Extracts}
+use Rattle.common.proofs.Choice.{by-test}
+use Rattle.extract.specs.Concluding.{Extracts, Answers}
 use Rattle.filters.specs.Filters.{filtered, filterDepth}
 use Rattle.html2text.specs.Extract as extract
 use Rattle.html2text.specs.declared.Extraction.{Extraction}
 use Rattle.html2text.specs.declared.Extraction.the-variants.{Refused}
 use Rattle.options.specs.declared.ExtractOptions.{ExtractOptions}
 use Rattle.sheet.specs.Layout.{depths}
-use Rattle.sheet.specs.Verdict.{verdictOf}
+use Rattle.sheet.specs.Verdict.{verdictOf, headerOf, judged, isSheet}
 use Rattle.sheet.specs.declared.line.Layout.{Layout}
 use Rattle.sheet.specs.declared.verdict.Verdict.{Verdict}
 use Rattle.sheet.specs.declared.verdict.Verdict.the-variants.{Sheet}
 use Rattle.tree.specs.Page.{nodeAt, pageOf}
-use Rattle.tree.proofs.QuestionsLaws.{NotSheet, on-sheet-refused}
+use Rattle.sheet.proofs.Acceptance.{header-refuses, header-passes, judged-stages, sheet-of}
+use Rattle.tree.proofs.QuestionsLaws.{on-sheet-refused}
 use Rattle.reader.specs.Extraction.{filters, extractionOf, outAfterOf, workAfterOf}
 
 -- the filters of a page read no marks
@@ -41,7 +44,7 @@ module _ (s : Bytes) (o : ExtractOptions) (out work : Bytes) where
     unfolding extract.workAfterOf
     sheet-work = rw v (ours .work-is)
 
-  module _ {v : Verdict} (e : v ≡ verdictOf 8 s) (k : NotSheet v) where
+  module _ {v : Verdict} (e : v ≡ verdictOf 8 s) (k : isSheet v ≡ false) where
     pub refused-answer : Refused v ≡ extractionOf s o (length out) (length work)
     unfolding extract.extractionOf
     refused-answer = rw (← e) (sym (on-sheet-refused (λ l. extract.extraction (filters (nodeAt s l) (depths s l) (l .root) o) (pageOf s l) o (length out) (length work)) Refused v k))
@@ -53,3 +56,20 @@ module _ (s : Bytes) (o : ExtractOptions) (out work : Bytes) where
     pub refused-work : work ≡ workAfterOf s o work
     unfolding extract.workAfterOf
     refused-work = rw (← e) (sym (on-sheet-refused (λ l. extract.workAfter (filters (nodeAt s l) (depths s l) (l .root) o) (pageOf s l) o work) (λ x. work) v k))
+
+  -- a header that is refused, and one that is not
+  pub header-answers : {v : Verdict} → v ≡ headerOf 8 s → isSheet v ≡ false → (Refused v ≡ extractionOf s o (length out) (length work)) × (out ≡ outAfterOf s o out work) × (work ≡ workAfterOf s o work)
+  header-answers {v} e k = let h = e ∙ header-refuses 8 s (ap isSheet (sym e) ∙ k) in (refused-answer h k, refused-out h k, refused-work h k)
+
+  module _ {l : Layout} {r : Extraction} {out′ work′ : Bytes} (h : headerOf 8 s ≡ Sheet l) (x : Answers s l o out work r out′ work′) where
+    judges : judged s l ≡ verdictOf 8 s
+    judges = header-passes 8 s (lit≤ tt) h .1
+
+    sheet : isSheet (judged s l) ≡ true → judged s l ≡ Sheet l
+    sheet t = let k = sheet-of (judged s l) t in k .1 ∙ ap Sheet (sym (judged-stages s l (k .1) .0))
+
+    pub answers : (r ≡ extractionOf s o (length out) (length work)) × (out′ ≡ outAfterOf s o out work) × (work′ ≡ workAfterOf s o work)
+    answers =
+        by-test (isSheet (judged s l))
+        (λ t. let v = sym judges ∙ sheet t in let y = x .accepted (sheet t) in (sheet-answer v y, sheet-out v y, sheet-work v y))
+        (λ f. (x .refused f ∙ refused-answer judges f, x .out-same f ∙ refused-out judges f, x .work-same f ∙ refused-work judges f))

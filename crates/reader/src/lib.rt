@@ -1,11 +1,12 @@
 // The entry points. Each comes back for every input with what its statement says; nothing is demanded of the caller.
-use extract::accepted::extract_accepted;
+use extract::sized::extract_sized;
 use html2text::Extraction;
 pub use links::questions::measure_of;
 use options::ExtractOptions;
 pub use patterns::matches;
 use sheet::verdict::Verdict;
 pub use sheet::verdict::check;
+use sheet::verdict::header_in;
 pub use text::collapse;
 pub use text::escape;
 pub use tree::attributes::attribute_of;
@@ -23,9 +24,9 @@ pub fn extract(sheet: &[u8], options: ExtractOptions, out: &mut [u8], work: &mut
     ensures text { λ r. ⌜ now (out .exit) ≡ outAfterOf (now (sheet .entry)) options (now (out .entry)) (now (work .entry)) ⌝ }
     ensures cleared { λ r. ⌜ now (work .exit) ≡ workAfterOf (now (sheet .entry)) options (now (work .entry)) ⌝ }
 {
-    let v = check(sheet);
+    let v = header_in(sheet, 8);
     let Verdict::Sheet(l) = v else {
         return Extraction::Refused(v);
     };
-    extract_accepted(sheet, l, options, out, work)
+    extract_sized(sheet, l, options, out, work)
 }

@@ -44,6 +44,14 @@ all-from right i (suc n) e j h k =
 pub all-right : (right : ℕ → Bool) (n : ℕ) → firstWrong right 0 n ≡ none → (j : ℕ) → j < n → right j ≡ true
 all-right right n e j h = all-from right 0 n e j (omega arith) (omega arith)
 
+-- and where all are right, none is wrong
+none-from : (right : ℕ → Bool) (i n : ℕ) → ((j : ℕ) → i ≤ j → j < i + n → right j ≡ true) → firstWrong right i n ≡ none
+none-from right i zero f = refl
+none-from right i (suc n) f = rw (f i (omega arith) (omega arith), firstWrong) (none-from right (suc i) n (λ j h k. f j (omega arith) (omega arith)))
+
+pub none-wrong : (right : ℕ → Bool) (n : ℕ) → ((j : ℕ) → j < n → right j ≡ true) → firstWrong right 0 n ≡ none
+none-wrong right n f = none-from right 0 n (λ j h k. f j (omega arith))
+
 -- ---- notes: what is noted, or else what is left, is what the whole gives
 
 abbrev orElse : Found → Option ℕ → Option ℕ

@@ -1,4 +1,4 @@
--- The header: its counts, and the verdict up to the lines.
+-- The header: its counts, and the verdict on it.
 use mathlib.Core.Path.{_≡_, refl, sym, ap, _∙_}
 use mathlib.Core.Bool.{Bool, true, false, _&&_, not, cond, and-false}
 use Prim.Native.Nat.{ℕ, _+_, _*_, _≤_, _<_}
@@ -11,13 +11,12 @@ use Rattle.common.specs.Bytes.{Bytes}
 use Rattle.common.proofs.Choice.{and-parts}
 use Rattle.sheet.specs.Layout.{headerLength, sizeOf, layoutOf}
 use Rattle.sheet.specs.Lines.{lineRight, quadFrom, shortLineOf}
-use Rattle.sheet.specs.Notes.{Sized}
-use Rattle.sheet.specs.Verdict.{countsRight, judged, verdictOf}
+use Rattle.sheet.specs.Verdict.{countsRight, headerOf}
 use Rattle.sheet.specs.declared.line.Four
 use Rattle.sheet.specs.declared.line.Layout.{Layout}
 use Rattle.sheet.specs.declared.line.Quad.{Quad}
 use Rattle.sheet.specs.declared.verdict.Verdict.{Verdict}
-use Rattle.sheet.specs.declared.verdict.Verdict.the-variants.{Length, Format, Counts}
+use Rattle.sheet.specs.declared.verdict.Verdict.the-variants.{Sheet, Length, Format, Counts}
 use Rattle.sheet.proofs.AttributePass.{short-numbers, short-bad}
 
 -- ---- counts
@@ -79,31 +78,26 @@ short-lines-small w n h k = let m : 4 * w + 1 ≤ 41 = omega arith in mul-le-mul
 -- ---- the verdict, up to the lines
 
 module _ (w : ℕ) (s : Bytes) where
-  pub verdict-short : length s < headerLength w → Length (headerLength w) ≡ verdictOf w s
-  unfolding verdictOf
-  verdict-short h = rw (lt-ltb (length s) (headerLength w) h)
+  pub header-short : length s < headerLength w → Length (headerLength w) ≡ headerOf w s
+  unfolding headerOf
+  header-short h = rw (lt-ltb (length s) (headerLength w) h)
 
   module _ (h : headerLength w ≤ length s) where
-    pub verdict-header : shortLineOf w s 0 ≡ Four.the-variants.Bad → Format 0 ≡ verdictOf w s
-    unfolding verdictOf
-    verdict-header e = rw (le-ltb (length s) (headerLength w) h, short-bad w s 0 e)
+    pub header-bad : shortLineOf w s 0 ≡ Four.the-variants.Bad → Format 0 ≡ headerOf w s
+    unfolding headerOf
+    header-bad e = rw (le-ltb (length s) (headerLength w) h, short-bad w s 0 e)
 
     module _ {q : Quad} (e : shortLineOf w s 0 ≡ Four.the-variants.Numbers q) where
-      after-header : verdictOf w s ≡ cond (not (countsRight (layoutOf w q))) Counts (cond (not (eqb (length s) (sizeOf (layoutOf w q)))) (Length (sizeOf (layoutOf w q))) (judged s (layoutOf w q)))
-      unfolding verdictOf
+      after-header : headerOf w s ≡ cond (not (countsRight (layoutOf w q))) Counts (cond (not (eqb (length s) (sizeOf (layoutOf w q)))) (Length (sizeOf (layoutOf w q))) (Sheet (layoutOf w q)))
+      unfolding headerOf
       after-header = let x = short-numbers w s 0 e in rw (le-ltb (length s) (headerLength w) h, x .0, x .1)
 
-      pub verdict-counts : countsRight (layoutOf w q) ≡ false → Counts ≡ verdictOf w s
-      verdict-counts c = rw (after-header, c)
+      pub header-counts : countsRight (layoutOf w q) ≡ false → Counts ≡ headerOf w s
+      header-counts c = rw (after-header, c)
 
       module _ (c : countsRight (layoutOf w q) ≡ true) where
-        pub verdict-length : (length s ≡ sizeOf (layoutOf w q) → ⊥) → Length (sizeOf (layoutOf w q)) ≡ verdictOf w s
-        verdict-length n = rw (after-header, c, ne-eqb (length s) (sizeOf (layoutOf w q)) n)
+        pub header-length : (length s ≡ sizeOf (layoutOf w q) → ⊥) → Length (sizeOf (layoutOf w q)) ≡ headerOf w s
+        header-length n = rw (after-header, c, ne-eqb (length s) (sizeOf (layoutOf w q)) n)
 
-        pub verdict-judged : length s ≡ sizeOf (layoutOf w q) → judged s (layoutOf w q) ≡ verdictOf w s
-        verdict-judged n = rw (after-header, c, eq-eqb (length s) (sizeOf (layoutOf w q)) n)
-
-        pub header-sized : w ≤ 10 → length s ≡ sizeOf (layoutOf w q) → Sized s (layoutOf w q)
-        header-sized b n =
-            let k = counted (layoutOf w q) c in
-            record { width = b; some-node = k .some-node; nodes = k .nodes; attributes = k .attributes; pool = k .pool; root = k .root; size = n }
+        pub header-sheet : length s ≡ sizeOf (layoutOf w q) → Sheet (layoutOf w q) ≡ headerOf w s
+        header-sheet n = rw (after-header, c, eq-eqb (length s) (sizeOf (layoutOf w q)) n)

@@ -77,7 +77,7 @@ module _ (s : Bytes) (l : Layout) where
   pub attributes-noted : {n : AttributeNotes} → attributesRead s l ≡ AttributesRead.the-variants.Noted n → (attributes s l (attributeFormat s l) ≡ none) × (n ≡ attributesNotes s l)
   attributes-noted h = attributes-none (attributes s l (attributeFormat s l)) (sym attributes-give ∙ h)
 
-  attributes-bad-at : {j : ℕ} → attributesRead s l ≡ AttributesRead.the-variants.Bad j → attributes s l (attributeFormat s l) ≡ some j
+  pub attributes-bad-at : {j : ℕ} → attributesRead s l ≡ AttributesRead.the-variants.Bad j → attributes s l (attributeFormat s l) ≡ some j
   attributes-bad-at h = attributes-some (attributes s l (attributeFormat s l)) (sym attributes-give ∙ h)
 
   pub attributes-bad-below : {j : ℕ} → attributesRead s l ≡ AttributesRead.the-variants.Bad j → j < l .attributes

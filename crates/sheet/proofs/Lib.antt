@@ -1,4 +1,5 @@
 pub mod Acceptance
+pub mod Accepting
 pub mod AttributePass
 pub mod ColumnsLaws
 pub mod DigitLaws

@@ -37,7 +37,7 @@ module _ (s : Bytes) (l : Layout) (n : Notes) (i : ℕ) (before r : Row) where
 -- ---- a line of eight numbers, or none
 
 module _ (w : ℕ) (s : Bytes) (at : ℕ) where
-  line-numbers : {r : Row} → nodeLineOf w s at ≡ NodeLine.the-variants.Numbers r → (lineRight w s at 8 ≡ true) × (r ≡ rowFrom w s at)
+  pub line-numbers : {r : Row} → nodeLineOf w s at ≡ NodeLine.the-variants.Numbers r → (lineRight w s at 8 ≡ true) × (r ≡ rowFrom w s at)
   unfolding nodeLineOf
   line-numbers {r} e = by-test (lineRight w s at 8) (λ q. (q, number-row (rw q at e))) (λ q. not-bad (rw q at e))
     where
@@ -47,7 +47,7 @@ module _ (w : ℕ) (s : Bytes) (at : ℕ) where
       not-bad : NodeLine.the-variants.Bad ≡ NodeLine.the-variants.Numbers r → (lineRight w s at 8 ≡ true) × (r ≡ rowFrom w s at)
       not-bad h = absurd (let z : _≡_ {A = ℕ} 0 1 = cc in omega arith)
 
-  line-bad : nodeLineOf w s at ≡ NodeLine.the-variants.Bad → lineRight w s at 8 ≡ false
+  pub line-bad : nodeLineOf w s at ≡ NodeLine.the-variants.Bad → lineRight w s at 8 ≡ false
   unfolding nodeLineOf
   line-bad e = by-test (lineRight w s at 8) (λ q. not-numbers (rw q at e)) (λ q. q)
     where

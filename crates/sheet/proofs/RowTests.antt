@@ -4,14 +4,15 @@ use mathlib.Core.Bool.{Bool, true, false, _&&_, _||_, and-false, and-true, cond}
 use Prim.Native.Nat.{ℕ, zero, suc, _+_, _-_, _≤_, _<_}
 use native.Mathlib.Omega.{arith}
 use lib.Dec.{leb, eqb}
-use lib.ListN.{length, take, drop}
+use lib.ListN.{length, take, drop, length-take, length-drop}
+use lib.Seq.{drop-drop}
 use borrow.Author.Tests.{leb-true, le-leb, lt-leb, eq-eqb, ne-eqb}
 use Rattle.common.specs.Bytes.{Bytes, codes, same}
 use Rattle.common.proofs.Choice.{leb-same}
-use Rattle.common.proofs.Parts.{part-to}
+use Rattle.common.proofs.Parts.{part-from, part-to}
 use Rattle.utf8.specs.Valid.{valid}
 use Rattle.sheet.specs.Layout.{poolStart, sizeOf, range}
-use Rattle.sheet.specs.Notes.{Sized, laterRight, treeRight}
+use Rattle.sheet.specs.Notes.{Sized, laterRight, treeRight, textsRight, rowRight}
 use Rattle.sheet.specs.Verdict.{inside, kindRight, bodyRight, textRight}
 use Rattle.sheet.specs.declared.line.Layout.{Layout}
 use Rattle.sheet.specs.declared.line.Row.{Row}
@@ -36,6 +37,19 @@ module _ (s : Bytes) (l : Layout) (at len : ℕ) where
   pub text-inside : (start : ℕ) → start ≡ poolStart l → inside l at len ≡ true → valid (take (start + at + len - (start + at)) (drop (start + at) s)) ≡ textRight s l at len
   unfolding textRight
   text-inside start e i = rw i (ap valid (part-to s (start + at) len ∙ ap (λ (p : ℕ). take len (drop (p + at) s)) e))
+
+-- ---- the part from the pool's start on is the pool
+
+module _ (s : Bytes) (l : Layout) (start : ℕ) (e : start ≡ poolStart l) where
+  pub pool-part : take (length s - start) (drop start s) ≡ drop (poolStart l) s
+  pool-part = part-from s start ∙ ap (λ (k : ℕ). drop k s) e
+
+  pub pool-holds : Sized s l → (at len : ℕ) → inside l at len ≡ true → at + len ≤ length (take (length s - start) (drop start s))
+  pool-holds sized at len i = simp (length-take, length-drop) (omega (arith, e, leb-true (at + len) (l .pool) i, sized .size))
+
+  pub text-in-pool : (at len : ℕ) → inside l at len ≡ true → valid (take len (drop at (take (length s - start) (drop start s)))) ≡ textRight s l at len
+  unfolding textRight
+  text-in-pool at len i = rw i (ap (λ (x : Bytes). valid (take len (drop at x))) pool-part ∙ ap (λ (x : Bytes). valid (take len x)) (drop-drop at (poolStart l) s))
 
 -- ---- the kind
 
@@ -124,3 +138,19 @@ module _ (s : Bytes) (l : Layout) (i : ℕ) (before r : Row) where
       go : (j : ℕ) → (j ≡ 0 → ⊥) → laterRight before r ≡ treeRight s l j before r
       go zero m = absurd (m refl)
       go (suc j) m = refl
+
+-- ---- together
+
+module _ (s : Bytes) (l : Layout) (i : ℕ) (before r : Row) where
+  pub row-kind-wrong : kindRight r ≡ false → false ≡ rowRight s l i before r
+  unfolding rowRight
+  row-kind-wrong k = rw k
+
+  module _ (k : kindRight r ≡ true) where
+    pub row-tree-wrong : treeRight s l i before r ≡ false → false ≡ rowRight s l i before r
+    unfolding rowRight
+    row-tree-wrong t = rw (k, t)
+
+    pub row-texts : treeRight s l i before r ≡ true → textsRight s l (r .«name_at») (r .«name_len») (r .«value_at») (r .«value_len») ≡ rowRight s l i before r
+    unfolding rowRight
+    row-texts t = rw (k, t)

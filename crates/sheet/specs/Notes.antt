@@ -4,11 +4,15 @@ use mathlib.Core.Bool.{Bool, true, false, _&&_, cond}
 use mathlib.Core.Option.{Option, none, some}
 use Prim.Native.Nat.{ℕ, zero, suc, _+_, _≤_, _<_}
 use lib.Dec.{leb, eqb}
-use lib.ListN.{length}
+use lib.ListN.{length, drop}
 use Rattle.common.specs.Bytes.{Bytes}
-use Rattle.sheet.specs.Layout.{sizeOf}
+use Rattle.utf8.specs.Valid.{valid}
+use Rattle.sheet.specs.Layout.{poolStart, sizeOf, rowAt}
+use Rattle.sheet.specs.Lines.{nodeLineOf}
 use Rattle.sheet.specs.Verdict.{inside, kindRight, bodyRight, textRight, nodes, nodeFormat, nodeKind, nodeTree, nodeRange, nodeText, countsFrom, attributes, attributeFormat, attributeRange, attributeText}
 use Rattle.sheet.specs.declared.line.Layout.{Layout}
+use Rattle.sheet.specs.declared.line.NodeLine.{NodeLine}
+use Rattle.sheet.specs.declared.line.NodeLine
 use Rattle.sheet.specs.declared.line.Quad.{Quad}
 use Rattle.sheet.specs.declared.line.Row.{Row}
 use Rattle.sheet.specs.declared.notes.AttributeNotes.{AttributeNotes}
@@ -24,6 +28,10 @@ abbrev pub foundOf : Option ℕ → Found
 foundOf none = Nothing
 foundOf (some i) = At i
 
+abbrev pub isNothing : Found → Bool
+isNothing (At i) = false
+isNothing Nothing = true
+
 abbrev pub noteOf : Found → Bool → ℕ → Found
 noteOf (At j) right i = At j
 noteOf Nothing true i = Nothing
@@ -38,6 +46,10 @@ pub record Sized (s : Bytes) (l : Layout) : Type 0 where
   pub pool : l .pool ≤ 4194304
   pub root : l .root < l .nodes
   pub size : length s ≡ sizeOf l
+
+-- where `whole`, the pool is UTF-8 as a whole
+abbrev pub Whole : Bytes → Layout → Bool → Type 0
+Whole s l whole = whole ≡ true → valid (drop (poolStart l) s) ≡ true
 
 -- a row behind another, where all rows before it are right: only the row just before it can be a parent that is not an element
 unfoldable pub laterRight : Row → Row → Bool
@@ -55,6 +67,20 @@ rangesRight l at len at′ len′ = inside l at len && inside l at′ len′
 
 abbrev pub textsRight : Bytes → Layout → ℕ → ℕ → ℕ → ℕ → Bool
 textsRight s l at len at′ len′ = textRight s l at len && textRight s l at′ len′
+
+-- the tests of row i together, where the rows before it are right: a text that is right lies in the pool
+unfoldable pub rowRight : Bytes → Layout → ℕ → Row → Row → Bool
+rowRight s l i before r = kindRight r && (treeRight s l i before r && textsRight s l (r .«name_at») (r .«name_len») (r .«value_at») (r .«value_len»))
+
+-- a line as row i, where it is right and its attributes, behind `first` others, are there
+abbrev pub rightLine : Bytes → Layout → ℕ → Row → ℕ → NodeLine → NodeLine
+rightLine s l i before first (NodeLine.the-variants.Numbers r) =
+    cond (rowRight s l i before r && leb (first + r .attributes) (l .attributes)) (NodeLine.the-variants.Numbers r) NodeLine.the-variants.Bad
+rightLine s l i before first NodeLine.the-variants.Bad = NodeLine.the-variants.Bad
+
+-- the line at `at`
+unfoldable pub rowIn : Bytes → Layout → ℕ → Row → ℕ → ℕ → NodeLine
+rowIn s l i before at first = rightLine s l i before first (nodeLineOf (l .width) s at)
 
 -- the notes with row i's
 unfoldable pub noteRow : Bytes → Layout → Notes → ℕ → Row → Row → Notes
@@ -104,3 +130,17 @@ attributesRead s l =
 pub record Formatted (s : Bytes) (l : Layout) : Type 0 where
   pub of-nodes : nodes s l (nodeFormat s l) ≡ none
   pub of-attributes : attributes s l (attributeFormat s l) ≡ none
+
+abbrev pub isNone : Option ℕ → Bool
+isNone none = true
+isNone (some i) = false
+
+-- no attribute line is at fault
+unfoldable pub attributesRight : Bytes → Layout → Bool
+attributesRight s l =
+    isNone (attributes s l (attributeFormat s l)) && (isNone (attributes s l (attributeRange s l)) && isNone (attributes s l (attributeText s l)))
+
+-- what a sheet whose rows are right must have beside them, where their attribute counts sum to `counts`
+unfoldable pub restRight : Bytes → Layout → ℕ → Bool
+unfolding attributesRight
+restRight s l counts = eqb counts (l .attributes) && (eqb (rowAt s l (l .root) .kind) 1 && attributesRight s l)

@@ -139,6 +139,26 @@ verdictOf w s =
     (cond (not (eqb (length s) (sizeOf l))) (Length (sizeOf l))
     (judged s l))))
 
+-- the same up to the lines: the layout, where the header is right and the length is what it says
+unfoldable pub headerOf : ℕ → Bytes → Verdict
+headerOf w s =
+    let l = layoutOf w (quadFrom w s 0) in
+    cond (ltb (length s) (headerLength w)) (Length (headerLength w))
+    (cond (not (lineRight w s 0 4)) (Format 0)
+    (cond (not (countsRight l)) Counts
+    (cond (not (eqb (length s) (sizeOf l))) (Length (sizeOf l))
+    (Sheet l))))
+
+abbrev pub isSheet : Verdict → Bool
+isSheet (Sheet l) = true
+isSheet (Length n) = false
+isSheet (Format n) = false
+isSheet Counts = false
+isSheet (Kind n) = false
+isSheet (Tree n) = false
+isSheet (Range n) = false
+isSheet (Encoding n) = false
+
 -- the numbers of each case
 abbrev pub numbers : Verdict → Answer
 numbers (Sheet l) = written 0

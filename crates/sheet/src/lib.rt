@@ -3,6 +3,7 @@ pub mod field;
 pub mod line;
 pub mod notes;
 pub mod read;
+pub mod rows;
 pub mod tests;
 pub mod verdict;
 pub mod write;

@@ -15,7 +15,7 @@ use crate::verdict::Found;
 ghost use mathlib.Core.Path.{_≡_};
 ghost use Prim.Native.Nat.{_+_, _^_, _<_};
 ghost use Rattle.sheet.specs.Layout.{poolStart};
-ghost use Rattle.sheet.specs.Notes.{Sized, attributesRead, nodesRead, noteAttribute, noteRow};
+ghost use Rattle.sheet.specs.Notes.{Sized, Whole, attributesRead, nodesRead, noteAttribute, noteRow};
 
 // Of each stage over the node lines the first that is not right, and the sum of the attribute counts.
 pub struct Notes {
@@ -31,8 +31,17 @@ pub enum NodesRead {
     Bad(usize),
 }
 
-fn note_row(s: &[u8], l: Layout, start: usize, n: Notes, i: usize, before: Row, r: Row) -> Notes
-    requires { ⌜ (start ≡ poolStart l) × Sized (now s) l × (n .counts + r .attributes < 2 ^ 64) ⌝ }
+fn note_row(
+    s: &[u8],
+    l: Layout,
+    start: usize,
+    whole: bool,
+    n: Notes,
+    i: usize,
+    before: Row,
+    r: Row,
+) -> Notes
+    requires { ⌜ (start ≡ poolStart l) × Sized (now s) l × Whole (now s) l whole × (n .counts + r .attributes < 2 ^ 64) ⌝ }
     ensures { λ x. ⌜ x ≡ noteRow (now (s .entry)) l n i before r ⌝ }
 {
     let kind = n.kind;
@@ -48,7 +57,16 @@ fn note_row(s: &[u8], l: Layout, start: usize, n: Notes, i: usize, before: Row, 
     );
     let encoding = note(
         encoding,
-        texts_right(s, l, start, r.name_at, r.name_len, r.value_at, r.value_len),
+        texts_right(
+            s,
+            l,
+            start,
+            whole,
+            r.name_at,
+            r.name_len,
+            r.value_at,
+            r.value_len,
+        ),
         i,
     );
     Notes {
@@ -61,8 +79,8 @@ fn note_row(s: &[u8], l: Layout, start: usize, n: Notes, i: usize, before: Row, 
 }
 
 // The node lines: the first whose format is not right, or the notes.
-pub fn read_nodes(s: &[u8], l: Layout) -> NodesRead
-    requires { ⌜ Sized (now s) l ⌝ }
+pub fn read_nodes(s: &[u8], l: Layout, whole: bool) -> NodesRead
+    requires { ⌜ Sized (now s) l × Whole (now s) l whole ⌝ }
     ensures { λ x. ⌜ x ≡ nodesRead (now (s .entry)) l ⌝ }
 {
     let width = l.width;
@@ -94,7 +112,7 @@ pub fn read_nodes(s: &[u8], l: Layout) -> NodesRead
                 return NodesRead::Bad(i);
             }
             NodeLine::Numbers(r) => {
-                n = note_row(s, l, start, n, i, before, r);
+                n = note_row(s, l, start, whole, n, i, before, r);
                 before = r;
                 at += step;
                 i += 1;
@@ -119,11 +137,12 @@ fn note_attribute(
     s: &[u8],
     l: Layout,
     start: usize,
+    whole: bool,
     n: AttributeNotes,
     j: usize,
     q: Quad,
 ) -> AttributeNotes
-    requires { ⌜ (start ≡ poolStart l) × Sized (now s) l ⌝ }
+    requires { ⌜ (start ≡ poolStart l) × Sized (now s) l × Whole (now s) l whole ⌝ }
     ensures { λ x. ⌜ x ≡ noteAttribute (now (s .entry)) l n j q ⌝ }
 {
     let range = n.range;
@@ -135,15 +154,15 @@ fn note_attribute(
     );
     let encoding = note(
         encoding,
-        texts_right(s, l, start, q.first, q.second, q.third, q.fourth),
+        texts_right(s, l, start, whole, q.first, q.second, q.third, q.fourth),
         j,
     );
     AttributeNotes { range, encoding }
 }
 
 // The attribute lines: the first whose format is not right, or the notes.
-pub fn read_attributes(s: &[u8], l: Layout) -> AttributesRead
-    requires { ⌜ Sized (now s) l ⌝ }
+pub fn read_attributes(s: &[u8], l: Layout, whole: bool) -> AttributesRead
+    requires { ⌜ Sized (now s) l × Whole (now s) l whole ⌝ }
     ensures { λ x. ⌜ x ≡ attributesRead (now (s .entry)) l ⌝ }
 {
     let width = l.width;
@@ -162,7 +181,7 @@ pub fn read_attributes(s: &[u8], l: Layout) -> AttributesRead
                 return AttributesRead::Bad(j);
             }
             Four::Numbers(q) => {
-                n = note_attribute(s, l, start, n, j, q);
+                n = note_attribute(s, l, start, whole, n, j, q);
                 at += step;
                 j += 1;
             }

@@ -7,7 +7,7 @@ ghost use mathlib.Core.Path.{_≡_};
 ghost use Prim.Native.Nat.{_+_};
 ghost use lib.Dec.{eqb, leb};
 ghost use Rattle.sheet.specs.Layout.{poolStart};
-ghost use Rattle.sheet.specs.Notes.{Sized, laterRight, noteOf, rangesRight, textsRight, treeRight};
+ghost use Rattle.sheet.specs.Notes.{Sized, Whole, laterRight, noteOf, rangesRight, rowRight, textsRight, treeRight};
 ghost use Rattle.sheet.specs.Verdict.{bodyRight, kindRight, textRight};
 
 // The first line at fault so far.
@@ -63,13 +63,16 @@ pub fn is_inside(at: usize, len: usize, pool: usize) -> bool
     len <= pool - at
 }
 
-// Whether a range of the pool is UTF-8.
-pub fn text_right(s: &[u8], l: Layout, start: usize, at: usize, len: usize) -> bool
-    requires { ⌜ (start ≡ poolStart l) × Sized (now s) l ⌝ }
+// Whether a range of the pool is UTF-8. Where the pool is UTF-8 as a whole, its ends tell.
+pub fn text_right(s: &[u8], l: Layout, start: usize, whole: bool, at: usize, len: usize) -> bool
+    requires { ⌜ (start ≡ poolStart l) × Sized (now s) l × Whole (now s) l whole ⌝ }
     ensures { λ x. ⌜ x ≡ textRight (now (s .entry)) l at len ⌝ }
 {
     if !is_inside(at, len, l.pool) {
         return false;
+    }
+    if whole {
+        return utf8::valid_part(&s[start..], at, len);
     }
     let from = start + at;
     let to = from + len;
@@ -141,16 +144,48 @@ pub fn texts_right(
     s: &[u8],
     l: Layout,
     start: usize,
+    whole: bool,
     at: usize,
     len: usize,
     at2: usize,
     len2: usize,
 ) -> bool
-    requires { ⌜ (start ≡ poolStart l) × Sized (now s) l ⌝ }
+    requires { ⌜ (start ≡ poolStart l) × Sized (now s) l × Whole (now s) l whole ⌝ }
     ensures { λ x. ⌜ x ≡ textsRight (now (s .entry)) l at len at2 len2 ⌝ }
 {
-    if text_right(s, l, start, at, len) {
-        return text_right(s, l, start, at2, len2);
+    if text_right(s, l, start, whole, at, len) {
+        return text_right(s, l, start, whole, at2, len2);
     }
     false
+}
+
+// The tests of row i together, where the rows before it are right.
+pub fn row_right(
+    s: &[u8],
+    l: Layout,
+    start: usize,
+    whole: bool,
+    i: usize,
+    before: Row,
+    r: Row,
+) -> bool
+    requires { ⌜ (start ≡ poolStart l) × Sized (now s) l × Whole (now s) l whole ⌝ }
+    ensures { λ x. ⌜ x ≡ rowRight (now (s .entry)) l i before r ⌝ }
+{
+    if !kind_right(r) {
+        return false;
+    }
+    if !tree_right(s, l, start, i, before, r) {
+        return false;
+    }
+    texts_right(
+        s,
+        l,
+        start,
+        whole,
+        r.name_at,
+        r.name_len,
+        r.value_at,
+        r.value_len,
+    )
 }

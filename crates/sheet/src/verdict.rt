@@ -10,14 +10,16 @@ use crate::notes::NodesRead;
 use crate::notes::Notes;
 use crate::notes::read_attributes;
 use crate::notes::read_nodes;
+ghost use mathlib.Core.Bool.{_&&_};
 ghost use mathlib.Core.Option.{none};
 ghost use mathlib.Core.Path.{_≡_};
 ghost use Prim.Native.Nat.{_+_, _<_, _≤_};
-ghost use lib.ListN.{length};
-ghost use Rattle.sheet.specs.Layout.{rowAt, sizeOf};
+ghost use lib.ListN.{drop, length};
+ghost use Rattle.utf8.specs.Valid.{valid};
+ghost use Rattle.sheet.specs.Layout.{poolStart, rowAt, sizeOf};
 ghost use Rattle.sheet.specs.Lines.{numberAt};
-ghost use Rattle.sheet.specs.Notes.{Formatted, Sized, attributesNotes, nodesNotes};
-ghost use Rattle.sheet.specs.Verdict.{countsRight, judged, nodeFormat, nodes, verdictOf};
+ghost use Rattle.sheet.specs.Notes.{Formatted, Sized, Whole, attributesNotes, attributesRight, isNothing, nodesNotes, restRight};
+ghost use Rattle.sheet.specs.Verdict.{countsRight, headerOf, judged, nodeFormat, nodes, verdictOf};
 
 // A row, or none.
 pub enum Found {
@@ -96,23 +98,69 @@ fn decide(s: &[u8], l: Layout, n: Notes, a: AttributeNotes) -> Verdict
     Verdict::Sheet(l)
 }
 
-fn judge_attributes(s: &[u8], l: Layout, n: Notes) -> Verdict
-    requires { ⌜ Sized (now s) l × (nodes (now s) l (nodeFormat (now s) l) ≡ none) × (n ≡ nodesNotes (now s) l) ⌝ }
+fn judge_attributes(s: &[u8], l: Layout, whole: bool, n: Notes) -> Verdict
+    requires { ⌜ Sized (now s) l × Whole (now s) l whole × (nodes (now s) l (nodeFormat (now s) l) ≡ none) × (n ≡ nodesNotes (now s) l) ⌝ }
     ensures { λ x. ⌜ x ≡ judged (now (s .entry)) l ⌝ }
 {
-    match read_attributes(s, l) {
+    match read_attributes(s, l, whole) {
         AttributesRead::Bad(j) => Verdict::Format(l.nodes + j + 1),
         AttributesRead::Noted(a) => decide(s, l, n, a),
     }
 }
 
-fn judge(s: &[u8], l: Layout) -> Verdict
-    requires { ⌜ Sized (now s) l ⌝ }
+fn is_nothing(f: Found) -> bool
+    ensures { λ r. ⌜ r ≡ isNothing f ⌝ }
+{
+    match f {
+        Found::At(_) => false,
+        Found::Nothing => true,
+    }
+}
+
+fn is_clean(a: AttributeNotes) -> bool
+    ensures { λ r. ⌜ r ≡ (isNothing (a .range) && isNothing (a .encoding)) ⌝ }
+{
+    let range = a.range;
+    if is_nothing(range) {
+        let encoding = a.encoding;
+        return is_nothing(encoding);
+    }
+    false
+}
+
+// Whether no attribute line is at fault.
+fn attributes_right(s: &[u8], l: Layout, whole: bool) -> bool
+    requires { ⌜ Sized (now s) l × Whole (now s) l whole ⌝ }
+    ensures { λ r. ⌜ r ≡ attributesRight (now (s .entry)) l ⌝ }
+{
+    match read_attributes(s, l, whole) {
+        AttributesRead::Bad(_) => false,
+        AttributesRead::Noted(a) => is_clean(a),
+    }
+}
+
+// Whether a sheet whose rows are right is accepted; counts: the sum of their attribute counts.
+pub fn rest_right(s: &[u8], l: Layout, whole: bool, counts: usize) -> bool
+    requires { ⌜ Sized (now s) l × Whole (now s) l whole ⌝ }
+    ensures { λ r. ⌜ r ≡ restRight (now (s .entry)) l counts ⌝ }
+{
+    if counts != l.attributes {
+        return false;
+    }
+    if kind_at(s, l, l.root) != 1 {
+        return false;
+    }
+    attributes_right(s, l, whole)
+}
+
+// 12 to 17; whole: whether the pool is known to be UTF-8.
+pub fn judge(s: &[u8], l: Layout, whole: bool) -> Verdict
+    requires { ⌜ Sized (now s) l × Whole (now s) l whole ⌝ }
     ensures { λ x. ⌜ x ≡ judged (now (s .entry)) l ⌝ }
 {
-    match read_nodes(s, l) {
+    match read_nodes(s, l, whole) {
         NodesRead::Bad(i) => Verdict::Format(i + 1),
-        NodesRead::Noted(n) => judge_attributes(s, l, n),
+        NodesRead::Noted(n) => judge_attributes(s, l, whole, n),
     }
 }
 
@@ -142,10 +190,10 @@ fn size_of(l: Layout) -> usize
     4 * width + 1 + (8 * width + 1) * l.nodes + (4 * width + 1) * l.attributes + l.pool
 }
 
-// The verdict on a sheet whose numbers have width columns.
-pub fn check_in(s: &[u8], width: usize) -> Verdict
+// The layout, where the header is right and the length is what it says; or what is wrong up to there.
+pub fn header_in(s: &[u8], width: usize) -> Verdict
     requires { ⌜ width ≤ 10 ⌝ }
-    ensures { λ x. ⌜ x ≡ verdictOf width (now (s .entry)) ⌝ }
+    ensures { λ x. ⌜ x ≡ headerOf width (now (s .entry)) ⌝ }
 {
     let header = 4 * width + 1;
     if s.len() < header {
@@ -168,7 +216,28 @@ pub fn check_in(s: &[u8], width: usize) -> Verdict
     if s.len() != size {
         return Verdict::Length(size);
     }
-    judge(s, l)
+    Verdict::Sheet(l)
+}
+
+// Whether the pool is UTF-8 as a whole.
+pub fn is_whole(s: &[u8], l: Layout) -> bool
+    requires { ⌜ Sized (now s) l ⌝ }
+    ensures { λ r. ⌜ r ≡ valid (drop (poolStart l) (now (s .entry))) ⌝ }
+{
+    let start = s.len() - l.pool;
+    utf8::valid(&s[start..])
+}
+
+// The verdict on a sheet whose numbers have width columns.
+pub fn check_in(s: &[u8], width: usize) -> Verdict
+    requires { ⌜ width ≤ 10 ⌝ }
+    ensures { λ x. ⌜ x ≡ verdictOf width (now (s .entry)) ⌝ }
+{
+    let v = header_in(s, width);
+    let Verdict::Sheet(l) = v else {
+        return v;
+    };
+    judge(s, l, is_whole(s, l))
 }
 
 // The verdict on a sheet: its numbers have 8 columns.

@@ -7,17 +7,14 @@ use Prim.Native.Nat.{ℕ, _≤_, _<_}
 use native.Mathlib.Omega.{arith}
 use lib.Dec.{ltb, lit≤}
 use borrow.Author.Tests.{lt-ltb, le-ltb, ltb-true, ltb-false}
-use denote.Enum.Declared.{tagOf}
-use types.Run.{OneOf, miss}
 use Rattle.common.specs.Bytes.{Bytes}
-use Rattle.common.proofs.Choice.{by-test}
+use Rattle.common.proofs.Choice.{by-test, absurd-test}
 use Rattle.sheet.specs.Accepted.{Accepted}
 use Rattle.sheet.specs.Layout.{rowAt, depths}
 use Rattle.sheet.specs.Notes.{foundOf}
-use Rattle.sheet.specs.Verdict.{verdictOf}
+use Rattle.sheet.specs.Verdict.{verdictOf, isSheet}
 use Rattle.sheet.specs.Verdict as verdict
-use Rattle.sheet.proofs.Acceptance.{accepts}
-use Rattle.sheet.proofs.verdict.Verdict.{the-type}
+use Rattle.sheet.proofs.Acceptance.{NotSheet, not-sheet, accepts}
 use Rattle.sheet.specs.declared.line.Layout.{Layout}
 use Rattle.sheet.specs.declared.line.Row.{Row}
 use Rattle.sheet.specs.declared.verdict.Verdict.{Verdict}
@@ -63,12 +60,8 @@ on-sheet-map f a r (Tree line) = r (Tree line)
 on-sheet-map f a r (Range line) = r (Range line)
 on-sheet-map f a r (Encoding line) = r (Encoding line)
 
--- a verdict that is not `Sheet`, by the number of its case
-abbrev pub NotSheet : Verdict → Type 0
-NotSheet v = OneOf (1 ∷ 2 ∷ 3 ∷ 4 ∷ 5 ∷ 6 ∷ 7 ∷ []) (tagOf the-type v)
-
-pub on-sheet-refused : {A : Type 0} (ask : Layout → A) (refuse : Verdict → A) (v : Verdict) → NotSheet v → onSheet ask refuse v ≡ refuse v
-on-sheet-refused ask refuse (Sheet l) k = absurd (miss (1 ∷ 2 ∷ 3 ∷ 4 ∷ 5 ∷ 6 ∷ 7 ∷ []) 0 tt k)
+pub on-sheet-refused : {A : Type 0} (ask : Layout → A) (refuse : Verdict → A) (v : Verdict) → isSheet v ≡ false → onSheet ask refuse v ≡ refuse v
+on-sheet-refused ask refuse (Sheet l) k = absurd-test refl k
 on-sheet-refused ask refuse (Length n) k = refl
 on-sheet-refused ask refuse (Format line) k = refl
 on-sheet-refused ask refuse Counts k = refl
@@ -88,7 +81,7 @@ module _ (s : Bytes) (row : ℕ) where
 
   pub asked-refused : {v : Verdict} → v ≡ verdictOf 8 s → NotSheet v → Refused v ≡ askedOf s row
   unfolding askedOf
-  asked-refused {v} e k = rw (← e) (sym (on-sheet-refused (λ l. withRow l row (lookupOf s l row)) Refused v k))
+  asked-refused {v} e k = rw (← e) (sym (on-sheet-refused (λ l. withRow l row (lookupOf s l row)) Refused v (not-sheet v k)))
 
   -- a sheet that is asked is accepted and has the row
   pub asked-known : {l : Layout} {r : Row} → Of l r ≡ askedOf s row → Accepted s l × (row < l .nodes) × (r ≡ rowAt s l row)

@@ -3,24 +3,29 @@ use mathlib.Core.Path.{_≡_, refl, sym, ap, _∙_}
 use mathlib.Core.Bool.{Bool, false, _||_}
 use mathlib.Core.List.{List, []}
 use mathlib.Core.Logic.{_⊎_, ⊎-elim}
-use Prim.Native.Nat.{ℕ, suc, _+_, _≤_, _<_}
+use Prim.Native.Nat.{ℕ, suc, _+_, _-_, _≤_, _<_}
 use native.Mathlib.Omega.{arith}
 use lib.Dec.{eqb}
-use lib.ListN.{length, getD, set, take, length-set}
+use lib.ListN.{length, getD, set, take, drop, length-set}
 use lib.Seq.{getD-set-same, getD-set-other, getD-take, length-take-le, ext-getD}
 use borrow.Author.Count.{below-more}
 use Rattle.common.specs.Bytes.{Bytes, codes, same}
+use Rattle.common.proofs.Parts.{part-to}
 use Rattle.sheet.specs.Accepted.{Accepted}
-use Rattle.sheet.specs.Layout.{rowAt, range, depths}
-use Rattle.sheet.specs.Verdict.{countsFrom}
+use Rattle.sheet.specs.Layout.{headerLength, nodeLength, poolStart, rowAt, range, depths}
+use Rattle.sheet.specs.Notes.{Sized, rowIn, restRight}
+use Rattle.sheet.specs.Verdict.{countsFrom, judged, isSheet}
 use Rattle.sheet.specs.declared.line.Layout.{Layout}
+use Rattle.sheet.specs.declared.line.NodeLine
 use Rattle.sheet.specs.declared.line.Row.{Row}
+use Rattle.sheet.proofs.Accepting.{RowIn, RowFacts, Rows, row-in-numbers, row-in-bad, not-accepted, rows-start, rows-bad, rows-wrong, row-is, row-facts, rows-more, rows-end}
+use Rattle.sheet.proofs.Header.{lines-small}
 use Rattle.sheet.proofs.LayoutLaws.{depths-at, depths-from-length}
 use Rattle.tags.specs.Tags.{tagNames, tagOf}
 use Rattle.tags.specs.Words.{words, firstWord, otherWords, numberFrom}
 use Rattle.tree.specs.Node.{tag}
 use Rattle.tree.specs.Page.{kindOf, nodeAt, pageOf}
-use Rattle.tree.proofs.AttributeLines.{counts-next, counts-none}
+use Rattle.tree.proofs.AttributeLines.{counts-next, counts-none, counts-fit}
 use Rattle.tree.proofs.Column.{depth-small}
 use Rattle.tree.proofs.NodeLaws.{tag-of-element, tag-of-other}
 use Rattle.tree.proofs.PageLaws.{row-kind, is-element, not-element, name-is}
@@ -44,6 +49,10 @@ comment-is : (k : ℕ) → (k ≡ 1) ⊎ ((k ≡ 3) ⊎ (k ≡ 8)) → isComment
 unfolding kindOf
 comment-is k listed = ⊎-elim (λ e. rw e) (λ m. ⊎-elim (λ e. rw e) (λ e. rw e) m) listed
 
+-- a range of the pool, as a part of the sheet
+pub name-part : (s : Bytes) (l : Layout) (start at len : ℕ) → start ≡ poolStart l → take (start + at + len - (start + at)) (drop (start + at) s) ≡ range s l at len
+name-part s l start at len e = part-to s (start + at) len ∙ ap (λ (p : ℕ). take len (drop (p + at) s)) e
+
 module _ (s : Bytes) (l : Layout) (i : ℕ) {r : Row} (r-is : r ≡ rowAt s l i) where
   pub element-tag : {t : ℕ} {name : Bytes} → t ≡ tagOf name → r .kind ≡ 1 → name ≡ range s l (r .«name_at») (r .«name_len») → t ≡ tagOf (tag (nodeAt s l i))
   element-tag t-is e n-is = t-is ∙ ap tagOf (n-is ∙ sym (tag-of-element (nodeAt s l i) (is-element s l i r-is e) ∙ name-is s l i r-is))
@@ -51,11 +60,8 @@ module _ (s : Bytes) (l : Layout) (i : ℕ) {r : Row} (r-is : r ≡ rowAt s l i)
   pub other-tag : (r .kind ≡ 1 → ⊥) → 0 ≡ tagOf (tag (nodeAt s l i))
   other-tag n = sym (ap tagOf (tag-of-other (nodeAt s l i) (not-element s l i r-is n)) ∙ no-name)
 
-  pub left-read : {b : Bool} → Accepted s l → i < l .nodes → b ≡ (eqb (r .kind) 8 || eqb (r .skip) 1) → b ≡ leftOut (nodeAt s l) (pageOf s l .marked) i
-  left-read a h b-is = b-is ∙ rw (row-kind s l i r-is, r-is, comment-is (rowAt s l i .kind) (a .kind i h .listed))
-
-  pub depth-read : Accepted s l → i < l .nodes → r .depth ≤ 500
-  depth-read a h = rw r-is (depth-small s l a i h)
+  pub left-read : {b : Bool} → (r .kind ≡ 1) ⊎ ((r .kind ≡ 3) ⊎ (r .kind ≡ 8)) → b ≡ (eqb (r .kind) 8 || eqb (r .skip) 1) → b ≡ leftOut (nodeAt s l) (pageOf s l .marked) i
+  left-read listed b-is = b-is ∙ rw (row-kind s l i r-is, ← r-is, comment-is (r .kind) listed)
 
 module _ (s : Bytes) (l : Layout) where
   module _ {ds ts fs vs ls : List ℕ} {bs : List Bool} where
@@ -145,6 +151,51 @@ module _ {s : Bytes} {l : Layout} {ds₀ ts₀ fs₀ vs₀ ls₀ ds ts fs vs ls 
         lengths-same = simp length-set (g .lengths-same);
         left-same = simp length-set (g .left-same);
       }
+
+-- ---- the rows as they are taken: each is right, and noted
+
+pub record Taking (s : Bytes) (l : Layout) (ds₀ ts₀ fs₀ vs₀ ls₀ : List ℕ) (bs₀ : List Bool) (ds ts fs vs ls : List ℕ) (bs : List Bool) (before : Row) (at first i : ℕ) : Type 0 where
+  pub rows : Rows s l before at i
+  pub few : first ≤ l .attributes
+  pub reading : Reading s l ds₀ ts₀ fs₀ vs₀ ls₀ bs₀ ds ts fs vs ls bs first i
+
+pub taking-start : (s : Bytes) (l : Layout) (ds ts fs vs ls : List ℕ) (bs : List Bool) (before : Row) → Taking s l ds ts fs vs ls bs ds ts fs vs ls bs before (headerLength (l .width)) 0 0
+taking-start s l ds ts fs vs ls bs before = record { rows = rows-start s l before; few = omega arith; reading = reading-start s l ds ts fs vs ls bs }
+
+module _ {s : Bytes} {l : Layout} {ds₀ ts₀ fs₀ vs₀ ls₀ ds ts fs vs ls : List ℕ} {bs₀ bs : List Bool} {before : Row} {at first i : ℕ} (g : Taking s l ds₀ ts₀ fs₀ vs₀ ls₀ bs₀ ds ts fs vs ls bs before at first i) where
+  module _ (h : i < l .nodes) where
+    pub taking-small : Sized s l → at + nodeLength (l .width) ≤ 5000000
+    taking-small sized = omega (arith, g .rows .place, lines-small (l .width) i (sized .width) (omega (arith, sized .nodes)), sized .width)
+
+    pub taking-bad : Sized s l → rowIn s l i before at first ≡ NodeLine.the-variants.Bad → false ≡ isSheet (judged s l)
+    taking-bad sized e =
+        row-in-bad s l i before at first e (rows-bad s l (g .rows) h) (λ r n w. rows-wrong s l (g .rows) h n w)
+        (λ r n w m. not-accepted s l sized (λ a. omega (arith, m, g .reading .first-is, counts-fit s l a i h (row-is s l (g .rows) h n))))
+
+    module _ {r : Row} (e : rowIn s l i before at first ≡ NodeLine.the-variants.Numbers r) where
+      row : RowIn s l i before at first r
+      row = row-in-numbers s l i before at first e
+
+      pub taken-is : r ≡ rowAt s l i
+      taken-is = row-is s l (g .rows) h (row .line)
+
+      pub taken-facts : RowFacts l r
+      taken-facts = row-facts s l (g .rows) h (row .line) (row .right)
+
+      pub taken-few : first + r .attributes ≤ l .attributes
+      taken-few = row .few
+
+      pub taking-more : {t then : ℕ} {b : Bool} → Columns (l .nodes) ds₀ ts₀ fs₀ vs₀ ls₀ bs₀ → ((j : ℕ) → r ≡ rowAt s l j → t ≡ tagOf (tag (nodeAt s l j))) → b ≡ (eqb (r .kind) 8 || eqb (r .skip) 1) → then ≡ at + nodeLength (l .width)
+          → Taking s l ds₀ ts₀ fs₀ vs₀ ls₀ bs₀ (set ds i (r .depth)) (set ts i t) (set fs i first) (set vs i (r .«value_at»)) (set ls i (r .«value_len»)) (set bs i b) r then (first + r .attributes) (i + 1)
+      taking-more room t-is b-is then-is =
+          record {
+            rows = rows-more s l (g .rows) h (row .line) (row .right) then-is;
+            few = row .few;
+            reading = reading-more (g .reading) room h taken-is (t-is i taken-is) (left-read s l i taken-is (taken-facts .listed) b-is);
+          }
+
+  pub taking-end : l .nodes ≤ i → restRight s l first ≡ isSheet (judged s l)
+  taking-end h = let e : i ≡ l .nodes = omega (arith, g .rows .within) in rows-end s l (g .rows) h (g .reading .first-is ∙ ap (countsFrom s l 0) e)
 
 -- the column of an accepted sheet, for a stack of 501 rows or more
 pub column-right : {s : Bytes} {l : Layout} {room : ℕ} → Accepted s l → 500 < room → ColumnRight (depths s l) room

@@ -28,8 +28,8 @@ texts-right-requires c κs = search needs
 note-requires-4 : tie.Need-note-requires-4
 note-requires-4 c κs = search needs
 
-add-t17 : tie.Need-add-t17
-add-t17 c = search needs
+add-t18 : tie.Need-add-t18
+add-t18 c = search needs
 
 returns : tie.Need-returns
 returns c =
@@ -47,5 +47,5 @@ note-row-spec =
     note-requires-3
     texts-right-requires
     note-requires-4
-    add-t17
+    add-t18
     returns)

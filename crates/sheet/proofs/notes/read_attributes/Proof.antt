@@ -9,37 +9,37 @@ use Rattle.sheet.proofs.notes.read_attributes.Statement.{statement}
 use Rattle.sheet.proofs.notes.read_attributes.Tie as tie
 
 abbrev Inv-loop : tie.InvT-loop
-Inv-loop s l width attributes start step n₀ at₀ j₀ n at j = Attributes s l n at j
+Inv-loop s l whole width attributes start step n₀ at₀ j₀ n at j = Attributes s l n at j
 
 abbrev μ-loop : tie.MeasureT-loop
-μ-loop s l width attributes start step n₀ at₀ j₀ n at j = attributes - j
+μ-loop s l whole width attributes start step n₀ at₀ j₀ n at j = attributes - j
 
 sub-start : tie.Need-sub-start Inv-loop μ-loop
-sub-start c = omega (arith, c .before .before .pre .size)
+sub-start c = omega (arith, c .before .before .pre .0 .size)
 
 mul-step : tie.Need-mul-step Inv-loop μ-loop
-mul-step c = omega (arith, c .before .before .pre .width)
+mul-step c = omega (arith, c .before .before .pre .0 .width)
 
 add-step : tie.Need-add-step Inv-loop μ-loop
-add-step c = omega (arith, c .before .before .pre .width)
+add-step c = omega (arith, c .before .before .pre .0 .width)
 
 mul-at : tie.Need-mul-at Inv-loop μ-loop
-mul-at c = omega (arith, c .before .before .pre .width)
+mul-at c = omega (arith, c .before .before .pre .0 .width)
 
 add-at : tie.Need-add-at Inv-loop μ-loop
-add-at c = omega (arith, c .before .before .pre .width)
+add-at c = omega (arith, c .before .before .pre .0 .width)
 
 mul-at-2 : tie.Need-mul-at-2 Inv-loop μ-loop
-mul-at-2 c = omega (arith, c .before .before .pre .width)
+mul-at-2 c = omega (arith, c .before .before .pre .0 .width)
 
 add-at-2 : tie.Need-add-at-2 Inv-loop μ-loop
-add-at-2 c = omega (arith, c .before .before .pre .width)
+add-at-2 c = omega (arith, c .before .before .pre .0 .width)
 
 mul-at-3 : tie.Need-mul-at-3 Inv-loop μ-loop
-mul-at-3 c = omega (arith, c .before .before .before .pre .size)
+mul-at-3 c = omega (arith, c .before .before .before .pre .0 .size)
 
 add-at-3 : tie.Need-add-at-3 Inv-loop μ-loop
-add-at-3 c = omega (arith, c .before .before .before .pre .size)
+add-at-3 c = omega (arith, c .before .before .before .pre .0 .size)
 
 loop-holds : tie.Need-loop-holds Inv-loop μ-loop
 loop-holds c = attributes-start _ _
@@ -47,7 +47,7 @@ loop-holds c = attributes-start _ _
 read-short-line-requires : tie.Need-read-short-line-requires Inv-loop μ-loop
 read-short-line-requires c κs =
     let l = c .before .loop in
-    (omega (arith, l .inv .place, attribute-fits (c .before .before .before .before .before .pre) (l .j) (c .loop-test .taken)), omega (arith, c .before .before .before .before .before .pre .width))
+    (omega (arith, l .inv .place, attribute-fits (c .before .before .before .before .before .pre .0) (l .j) (c .loop-test .taken)), omega (arith, c .before .before .before .before .before .pre .0 .width))
 
 enum-told : tie.Need-enum-told Inv-loop μ-loop
 enum-told c = search needs
@@ -61,15 +61,15 @@ enum-known-q : tie.Need-enum-known-q Inv-loop μ-loop
 enum-known-q c = search needs
 
 note-attribute-requires : tie.Need-note-attribute-requires Inv-loop μ-loop
-note-attribute-requires c κs = (pool-start (c .before .before .before .before .before .before .before .before .before .pre), c .before .before .before .before .before .before .before .before .before .pre)
+note-attribute-requires c κs = let p = c .before .before .before .before .before .before .before .before .before .pre in (pool-start (p .0), p .0, p .1)
 
 add-at-4 : tie.Need-add-at-4 Inv-loop μ-loop
 add-at-4 c =
     let l = c .before .before .before .before .before .before .loop in
-    omega (arith, l .inv .place, attribute-fits (c .before .before .before .before .before .before .before .before .before .before .pre) (l .j) (c .before .before .before .before .before .loop-test .taken))
+    omega (arith, l .inv .place, attribute-fits (c .before .before .before .before .before .before .before .before .before .before .pre .0) (l .j) (c .before .before .before .before .before .loop-test .taken))
 
 add-j : tie.Need-add-j Inv-loop μ-loop
-add-j c = omega (arith, c .before .before .before .before .before .loop-test .taken, c .before .before .before .before .before .before .before .before .before .before .pre .attributes)
+add-j c = omega (arith, c .before .before .before .before .before .loop-test .taken, c .before .before .before .before .before .before .before .before .before .before .pre .0 .attributes)
 
 loop-less : tie.Need-loop-less Inv-loop μ-loop
 loop-less c = omega (arith, c .before .before .before .before .before .loop-test .taken)

@@ -1,71 +1,32 @@
 -- `verdict::check_in` meets its contract.
 use mathlib.Core.Path.{sym, ap, _∙_}
-use borrow.Author.Tests.{not-true, not-false}
-use Rattle.sheet.specs.declared.verdict.Verdict.the-variants.{Length}
-use Rattle.sheet.proofs.Header.{counted, verdict-short, verdict-header, verdict-counts, verdict-length, verdict-judged, header-sized}
+use Rattle.sheet.specs.Verdict.{isSheet}
+use Rattle.sheet.proofs.Acceptance.{not-sheet, header-refuses, header-passes}
 use borrow.Author.Needs.{needs}
 use Rattle.sheet.proofs.verdict.check_in.Statement.{statement}
 use Rattle.sheet.proofs.verdict.check_in.Tie as tie
 
-mul-header : tie.Need-mul-header
-mul-header c = search needs
+header-in-requires : tie.Need-header-in-requires
+header-in-requires c κs = search needs
 
-add-header : tie.Need-add-header
-add-header c = search needs
+enum-known-v : tie.Need-enum-known-v
+enum-known-v c = search needs
 
 returns : tie.Need-returns
-returns c = verdict-short _ _ (c .if1 .taken)
+returns c =
+    let e = c .before .header-in .ensures in
+    e ∙ header-refuses _ _ (ap isSheet (sym e) ∙ not-sheet (c .before .header-in .result) (c .match .keys2))
 
-read-short-line-requires : tie.Need-read-short-line-requires
-read-short-line-requires c κs = search needs
-
-enum-known-q : tie.Need-enum-known-q
-enum-known-q c = search needs
-
-enum-told : tie.Need-enum-told
-enum-told c = search needs
-
-returns-2 : tie.Need-returns-2
-returns-2 c = verdict-header _ _ (c .before .before .before .if1 .left) (sym (c .before .before .read-short-line .ensures) ∙ c .enum-told .given .1)
-
-counts-right-requires : tie.Need-counts-right-requires
-counts-right-requires c κs = search needs
-
-returns-3 : tie.Need-returns-3
-returns-3 c = verdict-counts _ _ (c .before .before .before .before .before .before .if1 .left) (sym (c .before .before .before .before .before .read-short-line .ensures) ∙ c .before .before .before .q .given .1) (sym (c .before .counts-right .ensures) ∙ not-true _ (c .if2 .taken))
-
-size-of-requires : tie.Need-size-of-requires
-size-of-requires c κs =
-    let k = counted _ (sym (c .before .counts-right .ensures) ∙ not-false _ (c .if2 .left)) in
-    (c .before .before .before .before .before .before .before .before .pre, k .nodes, k .attributes, k .pool)
-
-returns-4 : tie.Need-returns-4
-returns-4 c =
-    ap Length (c .before .size-of .ensures)
-    ∙ verdict-length _ _ (c .before .before .before .before .before .before .before .before .if1 .left) (sym (c .before .before .before .before .before .before .before .read-short-line .ensures) ∙ c .before .before .before .before .before .q .given .1) (sym (c .before .before .before .counts-right .ensures) ∙ not-false _ (c .before .before .if2 .left)) (λ e. c .if3 .taken (e ∙ sym (c .before .size-of .ensures)))
+is-whole-requires : tie.Need-is-whole-requires
+is-whole-requires c κs = header-passes _ _ (c .before .before .before .before .before .pre) (sym (c .before .before .before .header-in .ensures) ∙ c .before .v .given .1) .0
 
 judge-requires : tie.Need-judge-requires
-judge-requires c κs =
-    header-sized _ _ (c .before .before .before .before .before .before .before .before .if1 .left) (sym (c .before .before .before .before .before .before .before .read-short-line .ensures) ∙ c .before .before .before .before .before .q .given .1) (sym (c .before .before .before .counts-right .ensures) ∙ not-false _ (c .before .before .if2 .left)) (c .before .before .before .before .before .before .before .before .before .before .pre) (c .if3 .left ∙ c .before .size-of .ensures)
+judge-requires c κs = (header-passes _ _ (c .before .before .before .before .before .before .pre) (sym (c .before .before .before .before .header-in .ensures) ∙ c .before .before .v .given .1) .0, λ e. sym (c .is-whole .ensures) ∙ e)
 
-returns-5 : tie.Need-returns-5
-returns-5 c =
-    c .judge .ensures ∙ verdict-judged _ _ (c .before .before .before .before .before .before .before .before .before .if1 .left) (sym (c .before .before .before .before .before .before .before .before .read-short-line .ensures) ∙ c .before .before .before .before .before .before .q .given .1) (sym (c .before .before .before .before .counts-right .ensures) ∙ not-false _ (c .before .before .before .if2 .left)) (c .before .if3 .left ∙ c .before .before .size-of .ensures)
+returns-2 : tie.Need-returns-2
+returns-2 c = c .judge .ensures ∙ header-passes _ _ (c .before .before .before .before .before .before .before .pre) (sym (c .before .before .before .before .before .header-in .ensures) ∙ c .before .before .before .v .given .1) .1
 
 pub check-in-spec : {M : Type 1} → statement M
 check-in-spec =
     tie.close
-    (tie.spec
-    mul-header
-    add-header
-    returns
-    read-short-line-requires
-    enum-known-q
-    enum-told
-    returns-2
-    counts-right-requires
-    returns-3
-    size-of-requires
-    returns-4
-    judge-requires
-    returns-5)
+    (tie.spec header-in-requires enum-known-v returns is-whole-requires judge-requires returns-2)

@@ -12,14 +12,14 @@ read-nodes-requires c κs = search needs
 enum-known-i : tie.Need-enum-known-i
 enum-known-i c = search needs
 
-add-t7 : tie.Need-add-t7
-add-t7 c = omega (arith, nodes-bad-below _ _ (sym (c .before .before .before .read-nodes .ensures) ∙ c .before .i .given .1), c .before .before .before .before .before .pre .nodes)
+add-t8 : tie.Need-add-t8
+add-t8 c = omega (arith, nodes-bad-below _ _ (sym (c .before .before .before .read-nodes .ensures) ∙ c .before .i .given .1), c .before .before .before .before .before .pre .0 .nodes)
 
 enum-known-n : tie.Need-enum-known-n
 enum-known-n c = search needs
 
 judge-attributes-requires : tie.Need-judge-attributes-requires
-judge-attributes-requires c κs = let x = nodes-noted _ _ (sym (c .before .before .before .read-nodes .ensures) ∙ c .before .n .given .1) in (c .before .before .before .before .before .pre, x .0, x .1)
+judge-attributes-requires c κs = let x = nodes-noted _ _ (sym (c .before .before .before .read-nodes .ensures) ∙ c .before .n .given .1) in (c .before .before .before .before .before .pre .0, c .before .before .before .before .before .pre .1, x .0, x .1)
 
 returns : tie.Need-returns
 returns c = judged-node-format _ _ (sym (c .before .before .before .read-nodes .ensures) ∙ c .before .i .given .1)
@@ -33,7 +33,7 @@ judge-spec =
     (tie.spec
     read-nodes-requires
     enum-known-i
-    add-t7
+    add-t8
     enum-known-n
     judge-attributes-requires
     returns

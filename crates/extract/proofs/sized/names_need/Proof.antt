@@ -1,8 +1,8 @@
--- `accepted::names_need` meets its contract.
+-- `sized::names_need` meets its contract.
 use Rattle.extract.proofs.ColumnLaws.{names-asked, names-not-asked}
 use borrow.Author.Needs.{needs}
-use Rattle.extract.proofs.accepted.names_need.Statement.{statement}
-use Rattle.extract.proofs.accepted.names_need.Tie as tie
+use Rattle.extract.proofs.sized.names_need.Statement.{statement}
+use Rattle.extract.proofs.sized.names_need.Tie as tie
 
 longest-names-requires : tie.Need-longest-names-requires
 longest-names-requires c κs = search needs

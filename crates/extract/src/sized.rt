@@ -1,19 +1,23 @@
-// The extraction of an accepted sheet: its rows are read once into columns, the rows that are left out are decided, and the passes follow.
+// The extraction of a sheet whose header is right: its rows are judged and read once into columns, the rows that are left out are decided, and
+// the passes follow.
 use crate::passes::extract_rows;
 use html2text::Extraction;
 use left_out::decide;
 use options::ExtractOptions;
 use sheet::line::Layout;
+use sheet::verdict::is_whole;
+use sheet::verdict::judge;
 use walk::names::longest_names;
-use walk::rows::read_rows;
+use walk::rows::take_rows;
 ghost use mathlib.Core.Path.{_≡_};
 ghost use Prim.Native.Nat.{_≤_, _<_};
 ghost use lib.ListN.{length};
 ghost use Rattle.filters.specs.Filters.{filtered};
 ghost use Rattle.sheet.specs.Accepted.{Accepted};
+ghost use Rattle.sheet.specs.Notes.{Sized, Whole};
 ghost use Rattle.tree.specs.Page.{nodeAt, pageOf};
-ghost use Rattle.walk.specs.Rows.{Columns};
-ghost use Rattle.extract.specs.Concluding.{Extracts, namesNeed};
+ghost use Rattle.walk.specs.Rows.{Columns, RowsRead};
+ghost use Rattle.extract.specs.Concluding.{Answers, Extracts, namesNeed};
 
 // What work must hold beside the entries' texts.
 fn names_need(s: &[u8], l: Layout, o: ExtractOptions) -> usize
@@ -26,15 +30,16 @@ fn names_need(s: &[u8], l: Layout, o: ExtractOptions) -> usize
     0
 }
 
+// The extraction of an accepted sheet whose rows stand in the columns.
 fn extract_columns(
     s: &[u8],
     l: Layout,
     o: ExtractOptions,
-    depths: &mut [u16],
-    tags: &mut [u8],
-    attributes: &mut [u32],
-    values: &mut [u32],
-    lengths: &mut [u32],
+    depths: &[u16],
+    tags: &[u8],
+    attributes: &[u32],
+    values: &[u32],
+    lengths: &[u32],
     left: &mut [bool],
     stack: &mut [usize],
     numbering: &mut [usize],
@@ -43,11 +48,11 @@ fn extract_columns(
     work: &mut [u8],
 ) -> Extraction
     requires { ⌜ Accepted (now s) l × Columns (l .nodes) (now depths) (now tags) (now attributes) (now values) (now lengths) (now left) ⌝ }
+    requires { ⌜ RowsRead (now s) l (l .nodes) (now depths) (now tags) (now attributes) (now values) (now lengths) (now left) ⌝ }
     requires { ⌜ (500 < length (now stack)) × (length (now numbering) ≡ 1024) × (length (now cells) ≡ 1024) ⌝ }
     ensures { λ r. ⌜ Extracts (filtered (pageOf (now (s .entry)) l) o) (pageOf (now (s .entry)) l) o (now (out .entry)) (now (work .entry)) r (now (out .exit)) (now (work .exit)) ⌝ }
 {
     let nodes = l.nodes;
-    read_rows(s, l, depths, tags, attributes, values, lengths, left);
     let column = &depths[..nodes];
     decide(s, l, o, column, tags, attributes, left, stack);
     let names = names_need(s, l, o);
@@ -74,12 +79,13 @@ fn extract_columns(
 fn extract_small(
     s: &[u8],
     l: Layout,
+    whole: bool,
     o: ExtractOptions,
     out: &mut [u8],
     work: &mut [u8],
 ) -> Extraction
-    requires { ⌜ Accepted (now s) l × (l .nodes ≤ 256) ⌝ }
-    ensures { λ r. ⌜ Extracts (filtered (pageOf (now (s .entry)) l) o) (pageOf (now (s .entry)) l) o (now (out .entry)) (now (work .entry)) r (now (out .exit)) (now (work .exit)) ⌝ }
+    requires { ⌜ Sized (now s) l × Whole (now s) l whole × (l .nodes ≤ 256) ⌝ }
+    ensures { λ r. ⌜ Answers (now (s .entry)) l o (now (out .entry)) (now (work .entry)) r (now (out .exit)) (now (work .exit)) ⌝ }
 {
     let mut depths = [0u16; 256];
     let mut tags = [0u8; 256];
@@ -90,15 +96,28 @@ fn extract_small(
     let mut stack = [0usize; 501];
     let mut numbering = [0usize; 1024];
     let mut cells = [false; 1024];
-    extract_columns(
+    if !take_rows(
         s,
         l,
-        o,
+        whole,
         &mut depths,
         &mut tags,
         &mut attributes,
         &mut values,
         &mut lengths,
+        &mut left,
+    ) {
+        return Extraction::Refused(judge(s, l, whole));
+    }
+    extract_columns(
+        s,
+        l,
+        o,
+        &depths,
+        &tags,
+        &attributes,
+        &values,
+        &lengths,
         &mut left,
         &mut stack,
         &mut numbering,
@@ -112,12 +131,13 @@ fn extract_small(
 fn extract_large(
     s: &[u8],
     l: Layout,
+    whole: bool,
     o: ExtractOptions,
     out: &mut [u8],
     work: &mut [u8],
 ) -> Extraction
-    requires { ⌜ Accepted (now s) l ⌝ }
-    ensures { λ r. ⌜ Extracts (filtered (pageOf (now (s .entry)) l) o) (pageOf (now (s .entry)) l) o (now (out .entry)) (now (work .entry)) r (now (out .exit)) (now (work .exit)) ⌝ }
+    requires { ⌜ Sized (now s) l × Whole (now s) l whole ⌝ }
+    ensures { λ r. ⌜ Answers (now (s .entry)) l o (now (out .entry)) (now (work .entry)) r (now (out .exit)) (now (work .exit)) ⌝ }
 {
     let mut depths = [0u16; 20000];
     let mut tags = [0u8; 20000];
@@ -128,15 +148,28 @@ fn extract_large(
     let mut stack = [0usize; 501];
     let mut numbering = [0usize; 1024];
     let mut cells = [false; 1024];
-    extract_columns(
+    if !take_rows(
         s,
         l,
-        o,
+        whole,
         &mut depths,
         &mut tags,
         &mut attributes,
         &mut values,
         &mut lengths,
+        &mut left,
+    ) {
+        return Extraction::Refused(judge(s, l, whole));
+    }
+    extract_columns(
+        s,
+        l,
+        o,
+        &depths,
+        &tags,
+        &attributes,
+        &values,
+        &lengths,
         &mut left,
         &mut stack,
         &mut numbering,
@@ -146,18 +179,23 @@ fn extract_large(
     )
 }
 
-pub fn extract_accepted(
+// A sheet whose header is right. Two calls for the long columns, so that their frame is not that of a small page too.
+pub fn extract_sized(
     s: &[u8],
     l: Layout,
     o: ExtractOptions,
     out: &mut [u8],
     work: &mut [u8],
 ) -> Extraction
-    requires { ⌜ Accepted (now s) l ⌝ }
-    ensures { λ r. ⌜ Extracts (filtered (pageOf (now (s .entry)) l) o) (pageOf (now (s .entry)) l) o (now (out .entry)) (now (work .entry)) r (now (out .exit)) (now (work .exit)) ⌝ }
+    requires { ⌜ Sized (now s) l ⌝ }
+    ensures { λ r. ⌜ Answers (now (s .entry)) l o (now (out .entry)) (now (work .entry)) r (now (out .exit)) (now (work .exit)) ⌝ }
 {
+    let whole = is_whole(s, l);
     if l.nodes <= 256 {
-        return extract_small(s, l, o, out, work);
+        return extract_small(s, l, whole, o, out, work);
     }
-    extract_large(s, l, o, out, work)
+    if whole {
+        return extract_large(s, l, true, o, out, work);
+    }
+    extract_large(s, l, false, o, out, work)
 }
