@@ -183,6 +183,10 @@ module _ {s : Bytes} {l : Layout} {v : Visit} (p : Visits s l v) where
       (λ k. added-of-text o visited (v .end) current k ∙ rw (text-is, e-is))
       (λ k. absurd (p .shown k))
 
+  pub added-none : (o : ExtractOptions) (current : ℕ) → v .tag ≡ 0 → v .«value_len» ≡ 0 → added o visited (v .end) current ≡ []
+  added-none o current z n =
+      added-value {text = []} o current z (ap (λ (k : ℕ). take k (drop (poolStart l + v .«value_at») s)) (sym n)) refl ∙ escape-nothing (isMinimalHtml (o .formatting) && isA current)
+
   pub added-element : (o : ExtractOptions) (current : ℕ) → (v .tag ≡ 0 → ⊥) → added o visited (v .end) current ≡ addedByElement o visited (v .end)
   added-element o current z =
       by-kind (visited .kind)

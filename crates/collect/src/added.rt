@@ -267,8 +267,33 @@ fn is_escaped(f: Formatting, current: u8) -> bool
     is_minimal_html(f) && current == A
 }
 
-// What a visit adds to the text of the current entry, whose tag is current. A row without a tag is a text, or an element that is not
-// told apart, which has no value.
+// What a visit to a row without a tag adds: a text, or an element that is not told apart, which has no value and adds nothing.
+fn add_text(
+    o: ExtractOptions,
+    s: &[u8],
+    l: Layout,
+    v: Visit,
+    current: u8,
+    p: Progress,
+    out: &mut [u8],
+    write: bool,
+) -> Progress
+    requires { ⌜ Visits (now s) l v × (v .tag ≡ 0) ⌝ }
+    requires { ⌜ ShowReady (o .formatting) (o .«list_bullets») write p (now out) (added o (nodeAt (now s) l (v .row)) (v .end) current) ⌝ }
+    ensures { λ r. ⌜ Shows (o .formatting) (o .«list_bullets») write p (now (out .entry)) r (now (out .exit)) (added o (nodeAt (now (s .entry)) l (v .row)) (v .end) current) ⌝ }
+{
+    if v.value_len == 0 {
+        return p;
+    }
+    let f = o.formatting;
+    let value = part(s, l, v.value_at, v.value_len);
+    if is_escaped(f, current) {
+        return show_escaped(f, o.list_bullets, p, value, out, write);
+    }
+    show(f, o.list_bullets, p, value, out, write)
+}
+
+// What a visit adds to the text of the current entry, whose tag is current.
 pub fn add(
     o: ExtractOptions,
     s: &[u8],
@@ -284,15 +309,7 @@ pub fn add(
     ensures { λ r. ⌜ Shows (o .formatting) (o .«list_bullets») write p (now (out .entry)) r (now (out .exit)) (added o (nodeAt (now (s .entry)) l (v .row)) (v .end) current) ⌝ }
 {
     if v.tag == 0 {
-        let f = o.formatting;
-        return put(
-            o,
-            p,
-            part(s, l, v.value_at, v.value_len),
-            is_escaped(f, current),
-            out,
-            write,
-        );
+        return add_text(o, s, l, v, current, p, out, write);
     }
     add_element(o, s, l, v, p, out, write)
 }

@@ -1,24 +1,18 @@
 -- `added::add` meets its contract.
 use Rattle.collect.proofs.PieceLaws.{show-same, shows-same}
-use Rattle.collect.proofs.AddedLaws.{value-inside, added-value, added-element}
+use Rattle.collect.proofs.AddedLaws.{added-element}
 use borrow.Author.Needs.{needs}
 use Rattle.collect.proofs.added.add.Statement.{statement}
 use Rattle.collect.proofs.added.add.Tie as tie
 
-part-requires : tie.Need-part-requires
-part-requires c κs = let p = c .before .before .before .before .pre .0 in (p .accepted, value-inside p)
-
-is-escaped-requires : tie.Need-is-escaped-requires
-is-escaped-requires c κs = search needs
-
-put-requires : tie.Need-put-requires
-put-requires c κs = let p = c .before .before .before .before .before .before .before .pre in show-same (added-value (p .0) _ _ (c .before .before .before .if1 .taken) (c .before .before .part .ensures) (c .before .is-escaped .ensures)) (p .1)
+add-text-requires : tie.Need-add-text-requires
+add-text-requires c κs = search needs
 
 same-length : tie.Need-same-length
 same-length c = search needs
 
 returns : tie.Need-returns
-returns c = shows-same (added-value (c .before .before .before .before .before .before .before .before .before .before .pre .0) _ _ (c .before .before .before .before .before .before .if1 .taken) (c .before .before .before .before .before .part .ensures) (c .before .before .before .before .is-escaped .ensures)) (c .before .before .put .ensures)
+returns c = search needs
 
 add-element-requires : tie.Need-add-element-requires
 add-element-requires c κs = let p = c .before .before .before .before .before .pre in (p .0, show-same (added-element (p .0) _ _ (c .before .if1 .left)) (p .1))
@@ -32,12 +26,4 @@ returns-2 c = shows-same (added-element (c .before .before .before .before .befo
 pub add-spec : {M : Type 1} → statement M
 add-spec =
     tie.close
-    (tie.spec
-    part-requires
-    is-escaped-requires
-    put-requires
-    same-length
-    returns
-    add-element-requires
-    same-length-2
-    returns-2)
+    (tie.spec add-text-requires same-length returns add-element-requires same-length-2 returns-2)
