@@ -1,5 +1,5 @@
 -- The walk of an accepted sheet's page has at most 40,000 events, and each adds at most six times the pool and a few bytes.
-use mathlib.Core.Path.{_≡_}
+use mathlib.Core.Path.{_≡_, refl}
 use mathlib.Core.Bool.{Bool, true, false, _&&_, _||_, not, cond}
 use mathlib.Core.List.{List, [], _∷_, _++_}
 use mathlib.Core.Option.{some, Option·getD}
@@ -141,6 +141,6 @@ pub events-bounded : {s : Bytes} {l : Layout} → Accepted s l → (hidden : ℕ
 events-bounded {s} {l} accepted hidden o =
     let p = pageOf s l in
     record {
-      few = omega (arith, events-few (nodeAt s l) hidden 0 (treeOf p), walk-of-tree p hidden o (page-right accepted) .most, depths-from-length s l 0 (l .nodes), accepted .sized .nodes);
+      few = omega (arith, events-few (nodeAt s l) hidden 0 (treeOf p), walk-of-tree p (λ i d. hidden i) hidden o (λ i d e. refl) (page-right accepted) .most, depths-from-length s l 0 (l .nodes), accepted .sized .nodes);
       each = events-add (nodeAt s l) hidden o (node-adds (accepted .sized) o) 0 (treeOf p);
     }

@@ -7,6 +7,7 @@ pub mod Extract
 pub mod Fused
 pub mod Levels
 pub mod Pieces
+pub mod Promises
 pub mod Serialize
 pub mod Showing
 pub mod Theorems

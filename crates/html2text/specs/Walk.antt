@@ -66,14 +66,19 @@ pub record Cursor : Type 0 where
   pub depth : ℕ
   pub end : Bool
 
-module _ (p : Page) (hidden : ℕ → Bool) (o : ExtractOptions) where
+-- `hidden`: the rows that are left out by the row and by the depth that the loop has counted
+module _ (p : Page) (hidden : ℕ → ℕ → Bool) (o : ExtractOptions) where
+  -- the condition of the body
+  abbrev pub leftOutAt : ℕ → ℕ → Bool
+  leftOutAt i d = leftOut (p .node) (λ j. hidden j d) i
+
   -- the first half of the body: `collect`, where the row is not left out
   abbrev pub visit : ℕ → ℕ → Bool → Sofar → Sofar
   visit i d end so =
       record {
         nodes =
-            cond (leftOut (p .node) hidden i) (so .nodes)
-            (collect o (so .nodes) (eventAt (p .node) hidden i (isSome (firstChildOf (p .depths) i)) d end));
+            cond (leftOutAt i d) (so .nodes)
+            (collect o (so .nodes) (eventAt (p .node) (λ j. hidden j d) i (isSome (firstChildOf (p .depths) i)) d end));
         passes = suc (so .passes);
       }
 
@@ -101,7 +106,7 @@ module _ (p : Page) (hidden : ℕ → Bool) (o : ExtractOptions) where
   loopFrom zero c d end so = so
   loopFrom (suc k) none d end so = so
   loopFrom (suc k) (some i) d end so =
-      let t = turn i d (leftOut (p .node) hidden i || end) in
+      let t = turn i d (leftOutAt i d || end) in
       loopFrom k (t .current) (t .depth) (t .end) (visit i d end so)
 
   -- "At most 2·N" passes

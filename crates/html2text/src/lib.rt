@@ -1,4 +1,6 @@
-// The types of an extraction.
+// The types of an extraction, and what the definitions promise.
+pub mod theorems;
+
 use sheet::verdict::Verdict;
 
 // `ExtractNode` of html2text.rs, with the number of its tag, and without its text.

@@ -2,14 +2,19 @@
 use mathlib.Core.Path.{_≡_, refl, sym, ap, _∙_}
 use mathlib.Core.Bool.{Bool, true, false, cond}
 use mathlib.Core.List.{List, [], _∷_}
-use Prim.Native.Nat.{ℕ}
+use Prim.Native.Nat.{ℕ, _-_}
 use native.Mathlib.Omega.{arith}
 use lib.Dec.{ltb, lit≤}
-use lib.ListN.{length}
+use lib.ListN.{length, take, replicate}
+use lib.Seq.{take-append-seam}
 use Rattle.common.specs.Bytes.{Bytes, padded}
+use Rattle.common.proofs.Choice.{absurd-test}
+use Rattle.html2text.specs.Bounds.{Going}
+use Rattle.html2text.specs.Demand3.{Gives}
 use Rattle.html2text.specs.Extract.{Run, going, tooManyLevels, tooManyRows, finished, concluded, outThen, workThen, hidden, entries, passes, workNeed, workNeedOf, serialized, extraction, outAfter, workAfter, numbers}
 use Rattle.html2text.specs.Extract as extract
 use Rattle.html2text.specs.Serialize.{State}
+use Rattle.html2text.specs.Theorems.{WalkOfTree}
 use Rattle.html2text.specs.Walk.{Sofar}
 use Rattle.html2text.specs.declared.Extraction.{Extraction}
 use Rattle.html2text.specs.declared.Extraction.the-variants.{Text, Refused, ListLevels, OpenRows, WorkTooShort, OutTooShort}
@@ -24,8 +29,10 @@ use Rattle.sheet.specs.declared.verdict.Verdict.the-variants.{Sheet, Length, Fo
 use Rattle.sheet.proofs.Acceptance.{accepts}
 use Rattle.tree.specs.Page.{Page, pageOf}
 use Rattle.tree.specs.Questions.{onSheet}
-use Rattle.reader.specs.Demands.{isOneOf, isNumber, Demand1, Demand2, Demand3, rustLoop}
+use Rattle.reader.specs.Demands.{isOneOf, isNumber, Demand1, Demand2, Demand3, loopExtraction}
 use Rattle.reader.specs.Extraction.{filters, extractionOf, outAfterOf, workAfterOf}
+use Rattle.reader.specs.Rust.{rustHidden, rustLoop, rustState, rustText}
+use Rattle.reader.proofs.RustLaws.{hides-rows, going-serialized, rust-options}
 
 -- ---- 1
 
@@ -80,7 +87,7 @@ module _ (out work : Bytes) where
   verdict-right f g h a (Range line) = unchanged (Refused (Range line)) refl (λ e. omega (arith, e)) (λ e. omega (arith, e)) refl refl
   verdict-right f g h a (Encoding line) = unchanged (Refused (Encoding line)) refl (λ e. omega (arith, e)) (λ e. omega (arith, e)) refl refl
 
-pub demand-1 : (s : Bytes) (o : ExtractOptions) (out work : Bytes) → Demand1 s o out work
+pub demand-1 : Demand1
 unfolding extract.extractionOf extract.outAfterOf extract.workAfterOf extraction outAfter workAfter
 demand-1 s o out work =
     let r = verdict-right out work (λ l. extraction (left l) (pageOf s l) o (length out) (length work)) (λ l. outAfter (left l) (pageOf s l) o out work) (λ l. workAfter (left l) (pageOf s l) o work)
@@ -93,13 +100,53 @@ demand-1 s o out work =
 
 -- ---- 2
 
+abbrev isText : Extraction → Bool
+isText (Text visits len) = true
+isText (Refused v) = false
+isText (ListLevels line) = false
+isText (OpenRows line) = false
+isText (WorkTooShort need) = false
+isText (OutTooShort need) = false
+
+-- a text that is given is that of the run
+concluded-text : (need visits : ℕ) (X : State) (r : Run) (out work t : Bytes) (v : ℕ) → Going (λ S. S ≡ X) r
+    → concluded need visits r (length out) (length work) ≡ Text v (length t) → take (length t) (outThen need visits r out work) ≡ t → t ≡ finished X
+concluded-text need visits X (tooManyLevels line) out work t v g e f = absurd-test (ap isText e) refl
+concluded-text need visits X (tooManyRows line) out work t v g e f = absurd-test (ap isText e) refl
+concluded-text need visits X (going S) out work t v g e f = go (ltb (length work) need) (ltb (length out) (S .out .peak)) e f
+  where
+    go : (a b : Bool) → cond a (WorkTooShort need) (cond b (OutTooShort (S .out .peak)) (Text visits (length (finished S)))) ≡ Text v (length t)
+        → take (length t) (cond a out (cond b out (padded (finished S) (length out)))) ≡ t → t ≡ finished X
+    go true b p q = absurd-test (ap isText p) refl
+    go false true p q = absurd-test (ap isText p) refl
+    go false false p q =
+        let n : length t ≡ length (finished S) = cc in
+        sym q ∙ ap (λ (k : ℕ). take k (padded (finished S) (length out))) n ∙ take-append-seam (finished S) (replicate (length out - length (finished S)) 0) ∙ ap finished g
+
+module _ (s : Bytes) (l : Layout) (o : ExtractOptions) (e : verdictOf 8 s ≡ Sheet l) where
+  abbrev page : Page
+  page = pageOf s l
+
+  abbrev leftOut : ℕ → Bool
+  leftOut = filters (page .node) (page .depths) (page .root) o
+
+  walk : WalkOfTree page (rustHidden page o) (hidden leftOut page o) o
+  walk = walk-of-tree page (rustHidden page o) (hidden leftOut page o) o (hides-rows page o) (page-right (accepts (lit≤ tt) e .1))
+
+  rust-text : o .icons ≡ false → (out work t : Bytes) → Gives filters s o out work t → t ≡ rustText page o
+  unfolding extract.extractionOf extract.outAfterOf extraction outAfter rustText
+  rust-text icons out work t g =
+      let es = entries leftOut page o in
+      concluded-text (workNeed leftOut page o) (passes leftOut page o) (rustState o es) (serialized o es) out work t (g .visits) (going-serialized o es) (rw e at (g .answer)) (rw e at (g .text))
+      ∙ ap (λ (so : Sofar). finished (rustState o (so .nodes))) (sym (walk .same))
+      ∙ ap (λ (a : ExtractOptions). finished (rustState a (rustLoop page a .nodes))) (rust-options o icons)
+
+  rust-answer : (out work : ℕ) → extractionOf s o out work ≡ loopExtraction page o out work
+  unfolding extract.extractionOf extraction
+  rust-answer out work = rw e (ap (λ (so : Sofar). concluded (workNeedOf page o (so .nodes)) (so .passes) (serialized o (so .nodes)) out work) (sym (walk .same)))
+
 pub demand-2 : Demand2
-unfolding extract.extractionOf extraction
-demand-2 s l o out work e icons =
-    let p = pageOf s l in
-    let f = filters (p .node) (p .depths) (p .root) o in
-    let w = walk-of-tree p (hidden f p o) o (page-right (accepts (lit≤ tt) e .1)) .same in
-    rw e (ap (λ (so : Sofar). concluded (workNeedOf p o (so .nodes)) (so .passes) (serialized o (so .nodes)) out work) (sym w))
+demand-2 s l o e = record { text = rust-text s l o e; answer = rust-answer s l o e; ends = walk s l o e .ends }
 
 -- ---- 3
 

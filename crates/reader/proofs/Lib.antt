@@ -1,3 +1,4 @@
 pub mod DemandsLaws
 pub mod ExtractionLaws
 pub mod PagesLaws
+pub mod RustLaws

@@ -1,3 +1,4 @@
 pub mod Demands
 pub mod Extraction
 pub mod Pages
+pub mod Rust

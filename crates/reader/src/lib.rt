@@ -16,7 +16,9 @@ pub use tree::questions::next_sibling_of;
 pub use tree::questions::parent_of;
 ghost use mathlib.Core.Path.{_≡_};
 ghost use lib.ListN.{length};
+ghost use Rattle.reader.specs.Demands.{Demand1, Demand2, Demand3};
 ghost use Rattle.reader.specs.Extraction.{extractionOf, outAfterOf, workAfterOf};
+ghost use Rattle.reader.specs.Pages.{PagesRight};
 
 // The text of a page, or why there is none.
 pub fn extract(sheet: &[u8], options: ExtractOptions, out: &mut [u8], work: &mut [u8]) -> Extraction
@@ -30,3 +32,11 @@ pub fn extract(sheet: &[u8], options: ExtractOptions, out: &mut [u8], work: &mut
     };
     extract_sized(sheet, l, options, out, work)
 }
+
+// The three demands, and the worked pages. It has no work to do: its promise is what is proved of every extraction.
+pub fn demands()
+    ensures every_call { λ r. ⌜ Demand1 ⌝ }
+    ensures as_the_rust { λ r. ⌜ Demand2 ⌝ }
+    ensures blanks_and_pieces { λ r. ⌜ Demand3 ⌝ }
+    ensures pages { λ r. ⌜ PagesRight ⌝ }
+{}

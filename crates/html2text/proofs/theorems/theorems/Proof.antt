@@ -1,0 +1,35 @@
+-- `theorems` meets its contract.
+use lib.Dec.{lit≤}
+use Rattle.html2text.proofs.BoundLaws.{run-bounded}
+use Rattle.html2text.proofs.Demand3Laws.{demand-3}
+use Rattle.html2text.proofs.ExampleLaws.{examples-are-right}
+use Rattle.html2text.proofs.FusionLaws.{fusion}
+use Rattle.html2text.proofs.LevelLaws.{step-levels}
+use Rattle.html2text.proofs.LevelMetLaws.{level-met}
+use Rattle.html2text.proofs.PageBounds.{events-bounded}
+use Rattle.html2text.proofs.PageLaws.{page-right}
+use Rattle.html2text.proofs.ShowingLaws.{shown-in-pieces, fed-in-two}
+use Rattle.html2text.proofs.WalkLaws.{walk-of-tree}
+use Rattle.html2text.proofs.theorems.theorems.Statement.{statement}
+use Rattle.html2text.proofs.theorems.theorems.Tie as tie
+use Rattle.html2text.specs.Promises.{WalkRight, PassesRight}
+use Rattle.sheet.proofs.Acceptance.{accepts}
+
+walk : WalkRight
+walk = record { page = λ s l e. page-right (accepts (lit≤ tt) e .1); tree = walk-of-tree; level = level-met }
+
+passes : PassesRight
+passes = record {
+  fusion = fusion;
+  pieces = shown-in-pieces;
+  fed = fed-in-two;
+  levels = λ f bullets n text S. step-levels n bullets text f S;
+  events = λ s l e. events-bounded (accepts (lit≤ tt) e .1);
+  run = run-bounded;
+}
+
+returns : tie.Need-returns
+returns c = (walk, (passes, (demand-3, examples-are-right)))
+
+pub theorems-spec : {M : Type 1} → statement M
+theorems-spec = tie.close (tie.spec returns)

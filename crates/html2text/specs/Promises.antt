@@ -1,0 +1,42 @@
+-- What the definitions promise for every page, entry and event; `theorems` (src/theorems.rt) has them as its contract.
+use mathlib.Core.Path.{_≡_}
+use mathlib.Core.Bool.{Bool}
+use mathlib.Core.List.{List}
+use Prim.Native.Nat.{ℕ, _≤_}
+use lib.ListN.{length}
+use Rattle.common.specs.Bytes.{Bytes}
+use Rattle.options.specs.declared.ExtractOptions.{ExtractOptions}
+use Rattle.options.specs.declared.Formatting.{Formatting}
+use Rattle.sheet.specs.Verdict.{verdictOf}
+use Rattle.sheet.specs.declared.line.Layout.{Layout}
+use Rattle.sheet.specs.declared.verdict.Verdict.the-variants.{Sheet}
+use Rattle.tree.specs.Node.{Node}
+use Rattle.tree.specs.Page.{Page, pageOf}
+use Rattle.html2text.specs.Bounds.{mostEvents, EachAdds, RunBounded, EventsBounded}
+use Rattle.html2text.specs.Collect.{Event}
+use Rattle.html2text.specs.Demand3.{Demand3}
+use Rattle.html2text.specs.Fused.{Fused, Fusion}
+use Rattle.html2text.specs.Levels.{StepLevels}
+use Rattle.html2text.specs.Serialize.{State}
+use Rattle.html2text.specs.Showing.{ShownInPieces, FedInTwo}
+use Rattle.html2text.specs.Theorems.{HidesRows, PageRight, WalkOfTree, LevelMet}
+use Rattle.html2text.specs.declared.ExtractNode.{ExtractNode}
+
+-- the walk of `extract_plain_text`
+pub record WalkRight : Type 0 where
+  pub page : (s : Bytes) (l : Layout) → verdictOf 8 s ≡ Sheet l → PageRight (pageOf s l)
+  pub tree : (p : Page) (hiddenAt : ℕ → ℕ → Bool) (hidden : ℕ → Bool) (o : ExtractOptions) → HidesRows p hiddenAt hidden → PageRight p → WalkOfTree p hiddenAt hidden o
+  pub level : (p : Page) (hidden : ℕ → Bool) (o : ExtractOptions) → LevelMet p hidden o
+
+-- what the passes of the code stand on: entries taken as they close, their texts shown in pieces, numbers that fit a word
+pub record PassesRight : Type 0 where
+  pub fusion : (o : ExtractOptions) (es : List Event) → Fusion o es
+  pub pieces : (f : Formatting) (bullets : Bool) → ShownInPieces f bullets
+  pub fed : (o : ExtractOptions) (e : Event) (F : Fused) → FedInTwo o e F
+  pub levels : (f : Formatting) (bullets : Bool) (n : ExtractNode) (text : Bytes) (S : State) → StepLevels f bullets n text S
+  pub events : (s : Bytes) (l : Layout) → verdictOf 8 s ≡ Sheet l → (hidden : ℕ → Bool) (o : ExtractOptions) → EventsBounded s l hidden o
+  pub run : (o : ExtractOptions) (es : List Event) → length es ≤ mostEvents → EachAdds o es → RunBounded o es
+
+-- demand 3, whatever rows main_content leaves out
+abbrev pub Demand3ForAll : Type 0
+Demand3ForAll = (filters : (ℕ → Node) → List ℕ → ℕ → ExtractOptions → ℕ → Bool) → Demand3 filters
