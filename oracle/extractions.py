@@ -79,7 +79,7 @@ def repeated(rows, times, pool, root=0):
 
 
 def main():
-    for options, markup, text in pages.DOCUMENT + pages.QUIRKS:
+    for options, markup, text in pages.WORKED:
         sheet = pages.written(markup)
         p, o = reference.Page(sheet), reference.Options(options.encode())
         answer, by_reference = reference.extraction(p, o, 5000, 5000)

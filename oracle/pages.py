@@ -152,6 +152,41 @@ QUIRKS = [
     (MAIN, "<div><div><footer>f</footer>t<!--c--></div></div>", "f\nt"),
 ]
 
+# quirks of filters.rs, with main_content: which rows it drops (docs/DIFFERENCES.md says why); two divs put a row at depth 3
+NO_META = "1111001000"
+FILTERS = [
+    (MAIN, '<div class="l-modal">t</div>', "t"),
+    (MAIN, '<div class="-lmodal">t</div>', ""),
+    (MAIN, '<p role="banner">t</p>', "t"),
+    (MAIN, '<p role="banner" id="x">t</p>', ""),
+    (MAIN, '<p role="banner" class="">t</p>', "t"),
+    (MAIN, '<p role="banner" class=" ">t</p>', ""),
+    (MAIN, '<div data-ad="">t</div>', "t"),
+    (MAIN, '<div data-ad="" class="x">t</div>', ""),
+    (MAIN, '<td class="sidebar">t</td>', ""),
+    (MAIN, '<th class="sidebar">t</th>', "t"),
+    (MAIN, '<h1 hidden="">t</h1>', "t"),
+    (MAIN, '<h2 hidden="">t</h2>', ""),
+    (MAIN, "<div><div><div><a>t</a></div></div></div>", "t"),
+    (MAIN, '<div><div><div class=" "><a>t</a></div></div></div>', ""),
+    (MAIN, "<!nav>t</nav>", ""),
+    (MAIN, '<!div class="main-content" hidden="">t</div>', ""),
+    (MAIN, '<p style="display:none">t</p>', ""),
+    (MAIN, '<p style="display:none!important">t</p>', "t"),
+    (NO_META, '<div><div><p class="bylinex">t</p></div></div>', ""),
+    (NO_META, '<div><div><p class="xbyline">t</p></div></div>', "t"),
+    (NO_META, '<p class="byline">t</p>', "t"),
+    (MAIN, '<p class="catalogo">t</p>', ""),
+    (MAIN, '<p class="xspinner">t</p>', ""),
+    (MAIN, '<p class="Spinner">t</p>', "t"),
+    (MAIN, '<p class="x ad">t</p>', "t"),
+    (MAIN, '<div class="header">t</div>', "t"),
+    (MAIN, '<div id="header">t</div>', ""),
+    (MAIN, "<ul><li>t</li></ul>", ""),
+    (MAIN, "<ol><li>t</li></ol>", "  1. t"),
+]
+WORKED = DOCUMENT + QUIRKS + FILTERS
+
 
 def long_pages():
     """Pages whose need of work or of out is 16,384 bytes, one less or one more; their rows show one range many times."""
@@ -176,13 +211,13 @@ def long_pages():
 
 
 def worked(out):
-    for options, markup, _ in DOCUMENT + QUIRKS:
+    for options, markup, _ in WORKED:
         out.write(framed(options, written(markup)))
 
 
 def check(answers):
     right = 0
-    for options, markup, text in DOCUMENT + QUIRKS:
+    for options, markup, text in WORKED:
         number, _, _, length = (int(answers.read(8)) for _ in range(4))
         answers.read(1)
         if number == 33 and options[9] == "1":
