@@ -9,6 +9,7 @@ several option lines. Packages used: python3.11-doc apache2-doc sqlite3-doc post
 developers-reference debian-reference-en debian-faq git-doc, and what else is in /usr/share/doc."""
 import glob
 import gzip
+import os
 import re
 import sys
 
@@ -288,6 +289,7 @@ def real(count, out):
     files = sorted(set(glob.glob("/usr/share/doc/**/*.html", recursive=True) + glob.glob("/usr/share/doc/**/*.html.en", recursive=True)
                        + glob.glob("/usr/share/doc/**/*.html.gz", recursive=True) + glob.glob("/usr/share/debian-reference/*.html")
                        + glob.glob("/usr/share/developers-reference/*.html")))
+    files = [f for f in files if os.path.isfile(f)]
     # spread over the folders, in one order everywhere
     step = max(1, len(files) // count)
     done = 0
