@@ -1,10 +1,11 @@
 /* Levzhada: reads a web page's tree sheet.
  *
- * Each function answers in the numbers of document 01, "The tree sheet and the text drawn from it", and comes back for every
- * input: nothing is demanded of the bytes. What holds for every call, as in C:
+ * docs/SHEET.md lays down the sheet, the options, the limits and the numbers. Each function answers in these numbers and comes back for
+ * every input: nothing is demanded of the bytes. What holds for every call, as in C:
  * - a pointer is not NULL, also where its length is 0, and so many bytes may be read there (written, where it is not const);
  * - what a call writes overlaps nothing else that the call is given;
- * - nothing else changes the bytes while the call runs.
+ * - nothing else changes the bytes while the call runs;
+ * - the stack has room for the call (LEVZHADA_STACK below).
  *
  * Link with liblevzhada.a, which `rt staticlib levzhada` writes to target/staticlib/.
  */
@@ -18,9 +19,45 @@
 extern "C" {
 #endif
 
+#define LEVZHADA_VERSION "0.1.0"
+#define LEVZHADA_VERSION_MAJOR 0
+#define LEVZHADA_VERSION_MINOR 1
+#define LEVZHADA_VERSION_PATCH 0
+
+/* The numbers, and what the second number is with each. The header is line 0, row 0 line 1. */
+#define LEVZHADA_ACCEPTED 0 /* as each function says */
+
+/* The sheet is wrong. */
+#define LEVZHADA_WRONG_LENGTH 11 /* the length that the sheet should have: 33 where it has no whole header, else what the header counts */
+#define LEVZHADA_WRONG_FORMAT 12 /* the line that has a wrong field or a wrong end */
+#define LEVZHADA_WRONG_COUNTS 13 /* 0: a count is out of range, or the root is no row */
+#define LEVZHADA_WRONG_TREE 14   /* the line that does not fit the tree; 0 for the root */
+#define LEVZHADA_WRONG_KIND 15   /* the line whose kind or skip is wrong, or that has what its kind may not have */
+#define LEVZHADA_WRONG_RANGE 16  /* the line with a range past the pool; 0 where the attribute counts do not sum up */
+#define LEVZHADA_NOT_UTF8 17     /* the line with a range that is not UTF-8 */
+
+/* The page is past a limit. */
+#define LEVZHADA_TOO_MANY_LIST_LEVELS 21 /* the line where list levels pass 1,024 */
+#define LEVZHADA_TOO_MANY_OPEN_ROWS 22   /* the line where open table rows pass 1,024 */
+
+/* What the call was given beside the sheet is too short, wrong or not there. */
+#define LEVZHADA_WORK_TOO_SHORT 31 /* the length that work needs */
+#define LEVZHADA_OUT_TOO_SHORT 32  /* the length that out needs */
+#define LEVZHADA_WRONG_OPTIONS 33  /* 0 */
+#define LEVZHADA_INPUT_TOO_LONG 34 /* of the program `desk` alone, no function gives it */
+#define LEVZHADA_NO_ROW 35         /* the row that is not there or, for the link measure, is no element */
+#define LEVZHADA_NO_PATTERN 36     /* the pattern that is not there */
+
+/* The stack that a call takes, in bytes below its caller's frame: at most this. Measured and rounded up, not proved: tests/c/stack.c found
+ * 378,776 for levzhada_extract from 257 rows on and 45,256 up to 256 rows, 21,912 for levzhada_matches, 4,600 for levzhada_measure and
+ * 1,352 or less for the others. */
+#define LEVZHADA_STACK 393216       /* any call, any sheet */
+#define LEVZHADA_STACK_SMALL 65536  /* levzhada_extract, a sheet of up to 256 rows */
+#define LEVZHADA_STACK_OTHERS 32768 /* every call but levzhada_extract */
+
 /* An answer. A refusal has visits 0 and length 0. */
 typedef struct {
-    size_t number; /* 0: accepted; otherwise the refusal, 11 to 36 */
+    size_t number; /* LEVZHADA_ACCEPTED, or why the call was refused */
     size_t second; /* what goes with the number: a line, a row, a need, .. */
     size_t visits; /* of a text: the passes of the walk */
     size_t length; /* of a text: its bytes */
@@ -33,14 +70,20 @@ typedef struct {
     size_t at;              /* where the value starts in the pool; 0 where there is none */
 } levzhada_range;
 
+/* The outcomes of the link measure. */
+#define LEVZHADA_MEASURE_NO_TEXT 0
+#define LEVZHADA_MEASURE_TOO_LONG 1
+#define LEVZHADA_MEASURE_NO_LINKS 2
+#define LEVZHADA_MEASURE_SHARE 3
+
 /* The link measure of an element. */
 typedef struct {
-    levzhada_answer answer; /* its second: the outcome, 0 no text, 1 too long, 2 no links, 3 a share */
+    levzhada_answer answer; /* its second: the outcome, LEVZHADA_MEASURE_.. */
     size_t exceeds;         /* 1: the share exceeds the rule's ratio; 0: it does not, or there is none */
     double share;           /* link bytes by text bytes; 0 where there is none */
 } levzhada_link_measure;
 
-/* What is wrong with a sheet: number 0 where nothing is, otherwise 11 to 17 with the line or the length at fault. */
+/* What is wrong with a sheet: LEVZHADA_ACCEPTED where nothing is, otherwise 11 to 17. */
 levzhada_answer levzhada_check(const uint8_t *sheet, size_t sheet_length);
 
 /* The single-row questions below come after the sheet's refusals; 35 with the row where the sheet has no such row. */

@@ -50,9 +50,9 @@ int main(void) {
         memset(work, FILL, sizeof work);
         levzhada_answer verdict = levzhada_check(sheet, length);
         levzhada_answer answer = levzhada_extract(sheet, length, bytes(STANDING), 11, out, sizeof out, work, sizeof work);
-        if (verdict.number == 0) {
+        if (verdict.number == LEVZHADA_ACCEPTED) {
             accepted++;
-            unlike += answer.number != 0;
+            unlike += answer.number != LEVZHADA_ACCEPTED;
             continue;
         }
         met[verdict.number]++;
@@ -62,7 +62,7 @@ int main(void) {
     check("sheets that the verdict and an extraction tell apart", unlike, 0);
     check("buffers touched by a refusal", touched, 0);
     check("some sheets are accepted", accepted > 0, 1);
-    for (size_t number = 11; number <= 17; number++)
+    for (size_t number = LEVZHADA_WRONG_LENGTH; number <= LEVZHADA_NOT_UTF8; number++)
         check("each number is met", met[number] > 0, 1);
     return close_checks();
 }

@@ -1,7 +1,7 @@
-/* The text of a page, called from C: the pages of document 01 and each of its numbers, with out and work looked at byte by byte. */
+/* The text of a page, called from C: small pages and each number of an extraction, with out and work looked at byte by byte. */
 #include "check.h"
 
-/* ---- a sheet from a page's tags and text, as document 01 writes them: attributes in double quotes, no entities */
+/* ---- a sheet from a page's tags and text: attributes in double quotes, no entities */
 
 static char rows[100000], attributes[1000], pool[20000], sheet[130000];
 static int row_count, attribute_count, pool_length;
@@ -89,7 +89,7 @@ static void check_extract(const char *what, size_t sheet_length, const char *opt
 static void check_refused(const char *what, size_t sheet_length, const char *options, size_t out_length, size_t work_length,
                           size_t number, size_t second) {
     levzhada_answer wanted = {number, second, 0, 0};
-    check_extract(what, sheet_length, options, out_length, work_length, wanted, 0, number == 32);
+    check_extract(what, sheet_length, options, out_length, work_length, wanted, 0, number == LEVZHADA_OUT_TOO_SHORT);
 }
 
 /* ---- the pages */
@@ -135,16 +135,16 @@ static void texts(void) {
     for (i = 0; i < sizeof pages / sizeof pages[0]; i++) {
         const char *html = pages[i].html, *options = pages[i].options, *text = pages[i].text;
         size_t out = pages[i].out, work = pages[i].work, length = sheet_of(html);
-        levzhada_answer wanted = {0, 0, pages[i].visits, strlen(text)};
+        levzhada_answer wanted = {LEVZHADA_ACCEPTED, 0, pages[i].visits, strlen(text)};
         check_extract(html, length, options, ROOM, ROOM, wanted, text, 1);
         check_extract(html, length, options, out, work, wanted, text, 1);
         if (work > 0) {
-            check_refused(html, length, options, ROOM, work - 1, 31, work);
-            check_refused(html, length, options, 0, 0, 31, work);
+            check_refused(html, length, options, ROOM, work - 1, LEVZHADA_WORK_TOO_SHORT, work);
+            check_refused(html, length, options, 0, 0, LEVZHADA_WORK_TOO_SHORT, work);
         }
         if (out > 0) {
-            check_refused(html, length, options, out - 1, work, 32, out);
-            check_refused(html, length, options, 0, ROOM, 32, out);
+            check_refused(html, length, options, out - 1, work, LEVZHADA_OUT_TOO_SHORT, out);
+            check_refused(html, length, options, 0, ROOM, LEVZHADA_OUT_TOO_SHORT, out);
         }
     }
 }
@@ -154,20 +154,20 @@ static void texts(void) {
 static void lines(void) {
     static const char *wrong[] = {"",           "1011001100",   "3011001100\n", "1211001100\n", "1011001102\n",
                                   "101100110\n", "10110011000\n", "1011001100\r", "/011001100\n"};
-    levzhada_answer wanted = {0, 0, 3, 1};
+    levzhada_answer wanted = {LEVZHADA_ACCEPTED, 0, 3, 1};
     size_t i, length = sheet_of("a");
     for (i = 0; i < sizeof wrong / sizeof wrong[0]; i++)
-        check_refused(wrong[i], length, wrong[i], ROOM, ROOM, 33, 0);
-    check_refused("a wrong line before a wrong sheet", 0, "", ROOM, ROOM, 33, 0);
+        check_refused(wrong[i], length, wrong[i], ROOM, ROOM, LEVZHADA_WRONG_OPTIONS, 0);
+    check_refused("a wrong line before a wrong sheet", 0, "", ROOM, ROOM, LEVZHADA_WRONG_OPTIONS, 0);
     check_extract("bytes behind the line", length, STANDING "x", ROOM, ROOM, wanted, "a", 1);
 }
 
 static void sheets(void) {
     size_t length = sheet_of("a");
-    check_refused("no sheet", 0, STANDING, ROOM, ROOM, 11, 33);
-    check_refused("a sheet cut short", length - 1, STANDING, ROOM, ROOM, 11, length);
+    check_refused("no sheet", 0, STANDING, ROOM, ROOM, LEVZHADA_WRONG_LENGTH, 33);
+    check_refused("a sheet cut short", length - 1, STANDING, ROOM, ROOM, LEVZHADA_WRONG_LENGTH, length);
     sheet[33 + 65 + 7] = '2';
-    check_refused("a depth", length, STANDING, 0, 0, 14, 2);
+    check_refused("a depth", length, STANDING, 0, 0, LEVZHADA_WRONG_TREE, 2);
 }
 
 /* The same childless tag so many times. */
@@ -180,13 +180,13 @@ static size_t many(const char *tag, int times) {
 }
 
 static void levels(void) {
-    levzhada_answer most = {0, 0, 1026, 0}, one_more = {0, 0, 1027, 0};
+    levzhada_answer most = {LEVZHADA_ACCEPTED, 0, 1026, 0}, one_more = {LEVZHADA_ACCEPTED, 0, 1027, 0};
     check_extract("1,024 lists", many("<ul></ul>", 1024), STANDING, 0, 0, most, "", 1);
-    check_refused("1,025 lists", many("<ul></ul>", 1025), STANDING, 0, 0, 21, 1026);
+    check_refused("1,025 lists", many("<ul></ul>", 1025), STANDING, 0, 0, LEVZHADA_TOO_MANY_LIST_LEVELS, 1026);
     check_extract("1,025 lists, Off", many("<ul></ul>", 1025), OFF, 0, 0, one_more, "", 1);
     check_extract("1,024 rows", many("<tr></tr>", 1024), STANDING, 0, 0, most, "", 1);
-    check_refused("1,025 rows", many("<tr></tr>", 1025), STANDING, 0, 0, 22, 1026);
-    check_refused("1,025 rows, Off", many("<tr></tr>", 1025), OFF, 0, 0, 22, 1026);
+    check_refused("1,025 rows", many("<tr></tr>", 1025), STANDING, 0, 0, LEVZHADA_TOO_MANY_OPEN_ROWS, 1026);
+    check_refused("1,025 rows, Off", many("<tr></tr>", 1025), OFF, 0, 0, LEVZHADA_TOO_MANY_OPEN_ROWS, 1026);
 }
 
 int main(void) {

@@ -65,17 +65,17 @@ static levzhada_answer extracted(const char *what, size_t length, const char *op
     memset(out, '#', out_length);
     memset(work, '#', work_length);
     levzhada_answer a = levzhada_extract(bytes(sheet), length, bytes(options), 11, out, out_length, work, work_length);
-    check(what, all(work, 0, work_length, a.number == 0 || a.number == 32 ? 0 : '#'), 1);
-    check(what, a.number == 0 ? all(out, a.length, out_length, 0) : all(out, 0, out_length, '#'), 1);
+    check(what, all(work, 0, work_length, a.number == LEVZHADA_ACCEPTED || a.number == LEVZHADA_OUT_TOO_SHORT ? 0 : '#'), 1);
+    check(what, a.number == LEVZHADA_ACCEPTED ? all(out, a.length, out_length, 0) : all(out, 0, out_length, '#'), 1);
     return a;
 }
 
 /* At the needs and one byte short of each. */
 static void check_needs(const char *what, size_t length, const char *options, size_t out_need, size_t work_need, size_t visits,
                         size_t text_length) {
-    check_answer(what, extracted(what, length, options, out_need, work_need), 0, 0, visits, text_length);
-    check_answer(what, extracted(what, length, options, out_need, work_need - 1), 31, work_need, 0, 0);
-    check_answer(what, extracted(what, length, options, out_need - 1, work_need), 32, out_need, 0, 0);
+    check_answer(what, extracted(what, length, options, out_need, work_need), LEVZHADA_ACCEPTED, 0, visits, text_length);
+    check_answer(what, extracted(what, length, options, out_need, work_need - 1), LEVZHADA_WORK_TOO_SHORT, work_need, 0, 0);
+    check_answer(what, extracted(what, length, options, out_need - 1, work_need), LEVZHADA_OUT_TOO_SHORT, out_need, 0, 0);
 }
 
 int main(void) {
@@ -103,7 +103,7 @@ int main(void) {
     for (i = 1; i < ROWS; i++)
         row(1, 3, 0, 0, i, 10000, 0);
     length = finished(POOL);
-    check_answer("one entry", extracted("one entry", length, OFF, 1000, 1000), 31, (size_t)(ROWS - 1) * 10000, 0, 0);
+    check_answer("one entry", extracted("one entry", length, OFF, 1000, 1000), LEVZHADA_WORK_TOO_SHORT, (size_t)(ROWS - 1) * 10000, 0, 0);
 
     /* 200 paragraphs that show the same 100,000 bytes */
     begin();
@@ -139,8 +139,8 @@ int main(void) {
     begin();
     length = finished(12);
     memcpy(sheet, "   20001", 8);
-    check_answer("20,001 rows", extracted("20,001 rows", length, MAIN, 10, 10), 13, 0, 0, 0);
+    check_answer("20,001 rows", extracted("20,001 rows", length, MAIN, 10, 10), LEVZHADA_WRONG_COUNTS, 0, 0, 0);
     memcpy(sheet, "       1   60001", 16);
-    check_answer("60,001 attributes", extracted("60,001 attributes", length, MAIN, 10, 10), 13, 0, 0, 0);
+    check_answer("60,001 attributes", extracted("60,001 attributes", length, MAIN, 10, 10), LEVZHADA_WRONG_COUNTS, 0, 0, 0);
     return close_checks();
 }
