@@ -5,9 +5,7 @@ use std::io::Write;
 
 fn main() -> Result<(), Box<dyn Error>> {
     let file = std::env::args_os().nth(1).ok_or("read_sheet FILE")?;
-    let text = levzhada::extract(&std::fs::read(file)?, &levzhada::Options::default())?;
-    let mut out = std::io::stdout().lock();
-    out.write_all(&text.bytes)?;
-    out.write_all(b"\n")?;
+    let text = levzhada::extract(&std::fs::read(file)?, &levzhada::Options::default())?.text;
+    writeln!(std::io::stdout(), "{text}")?;
     Ok(())
 }

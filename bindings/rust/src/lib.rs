@@ -1,7 +1,9 @@
 //! Reads a web page's tree sheet: safe functions over `liblevzhada.a`.
 //!
-//! A sheet is the byte string that document 01, "The tree sheet and the text drawn from it", lays down; numbers in brackets below are
-//! its refusals. Every function comes back for every input. The answers are proved of the archive; the few lines here are tested.
+//! A sheet is the byte string that docs/SHEET.md of the repository lays down; numbers in brackets below are its refusals. Every function
+//! comes back for every input, and none panics or aborts: where the allocator has not the memory for a text, that is a refusal with the
+//! need. (A system that grants more memory than it has may still end the process when the memory is used.) The answers are proved of the
+//! archive; the few lines here are tested.
 //!
 //! ```
 //! use levzhada::Refusal;
@@ -9,6 +11,9 @@
 //! assert_eq!(levzhada::check(sheet), Ok(()));
 //! assert_eq!(levzhada::parent(sheet, 1), Err(Refusal::Row(1)));
 //! ```
+//!
+//! A call takes stack: [`extract()`] up to 384 KiB ([`STACK`]), 64 KiB on a sheet of up to 256 rows, and every other function up to 32 KiB.
+//! This is measured (tests/c/stack.c of the repository), not proved, and it is the archive's share.
 
 mod extract;
 
@@ -16,6 +21,16 @@ pub use extract::{extract, Formatting, Options, Text};
 use std::error::Error;
 use std::fmt;
 use std::ops::Range;
+
+/// The stack that the archive takes in any call, in bytes: at most this, as measured. A thread that makes calls has it and some more for
+/// its own frames.
+///
+/// ```
+/// let reading = std::thread::Builder::new().stack_size(levzhada::STACK + (64 << 10));
+/// let read = reading.spawn(|| levzhada::extract(b"", &levzhada::Options::default()));
+/// assert!(read.unwrap().join().unwrap().is_err());
+/// ```
+pub const STACK: usize = 393_216;
 
 /// The functions of include/levzhada.h.
 mod raw {
@@ -88,12 +103,13 @@ mod raw {
     }
 }
 
-/// Why there is no answer: document 01's numbers, each with its second number. The header is line 0, row 0 line 1.
+/// Why there is no answer: the numbers of docs/SHEET.md, each with its second number. The header is line 0, row 0 line 1.
 ///
-/// A buffer that is too short (31, 32) is no refusal here: it grows. An option line is never wrong (33): `Options` writes it.
+/// An option line is never wrong (33): `Options` writes it.
 #[derive(Clone, Copy, Debug, PartialEq, Eq)]
+#[non_exhaustive]
 pub enum Refusal {
-    /// 11: the sheet's length is not this one.
+    /// 11: the length that the sheet should have.
     Length(usize),
     /// 12: a field or the end of this line.
     Format(usize),
@@ -111,10 +127,17 @@ pub enum Refusal {
     ListLevels(usize),
     /// 22: open table rows pass 1,024 at this line.
     OpenRows(usize),
+    /// 31: an extraction needs this many bytes to work in, and the allocator has not got them.
+    Work(usize),
+    /// 32: the text needs this many bytes while it is written, and the allocator has not got them.
+    Out(usize),
     /// 35: the sheet has no such row or, for the link measure, it is no element.
     Row(usize),
     /// 36: there is no such pattern.
     Pattern(usize),
+    /// An answer that the archive is proved never to give here, in its numbers; of a text that is not UTF-8, 0 and where that begins.
+    /// Another archive was linked.
+    Other(usize, usize),
 }
 
 impl Refusal {
@@ -130,8 +153,11 @@ impl Refusal {
             Refusal::Encoding(line) => (17, line),
             Refusal::ListLevels(line) => (21, line),
             Refusal::OpenRows(line) => (22, line),
+            Refusal::Work(need) => (31, need),
+            Refusal::Out(need) => (32, need),
             Refusal::Row(row) => (35, row),
             Refusal::Pattern(pattern) => (36, pattern),
+            Refusal::Other(number, second) => (number, second),
         }
     }
 }
@@ -151,8 +177,14 @@ impl fmt::Display for Refusal {
             Refusal::OpenRows(line) => {
                 write!(f, "{number}: too many open table rows at line {line}")
             }
+            Refusal::Work(need) => write!(f, "{number}: no memory for {need} bytes of work"),
+            Refusal::Out(need) => write!(f, "{number}: no memory for {need} bytes of text"),
             Refusal::Row(row) => write!(f, "{number}: row {row} is not there, or no element"),
             Refusal::Pattern(pattern) => write!(f, "{number}: no pattern {pattern}"),
+            Refusal::Other(number, second) => write!(
+                f,
+                "{number} {second}: no answer of the archive that this crate is for"
+            ),
         }
     }
 }
@@ -172,10 +204,26 @@ fn accepted(a: raw::Answer) -> Result<raw::Answer, Refusal> {
         (17, line) => Refusal::Encoding(line),
         (21, line) => Refusal::ListLevels(line),
         (22, line) => Refusal::OpenRows(line),
+        (31, need) => Refusal::Work(need),
+        (32, need) => Refusal::Out(need),
         (35, row) => Refusal::Row(row),
         (36, pattern) => Refusal::Pattern(pattern),
-        (number, second) => unreachable!("no call gives {number} {second}"),
+        (number, second) => Refusal::Other(number, second),
     })
+}
+
+/// Makes a buffer as long as a need, all zero. False where it is that long already, and where the allocator has not the memory; then
+/// the answer that told the need stands.
+fn grow(buffer: &mut Vec<u8>, need: usize) -> bool {
+    if need <= buffer.len() {
+        return false;
+    }
+    *buffer = Vec::new(); // what it holds is not needed
+    if buffer.try_reserve_exact(need).is_err() {
+        return false;
+    }
+    buffer.resize(need, 0);
+    true
 }
 
 /// What is wrong with a sheet (11 to 17).
@@ -260,15 +308,16 @@ pub enum Measure {
 pub fn measure(sheet: &[u8], row: usize, rule: Rule) -> Result<Measure, Refusal> {
     let m =
         unsafe { raw::levzhada_measure(sheet.as_ptr(), sheet.len(), row, rule.ratio, rule.limit) };
-    accepted(m.answer).map(|a| match a.second {
-        0 => Measure::NoText,
-        1 => Measure::TooLong,
-        2 => Measure::NoLinks,
-        _ => Measure::Share {
+    match accepted(m.answer)?.second {
+        0 => Ok(Measure::NoText),
+        1 => Ok(Measure::TooLong),
+        2 => Ok(Measure::NoLinks),
+        3 => Ok(Measure::Share {
             share: m.share,
             exceeds: m.exceeds == 1,
-        },
-    })
+        }),
+        outcome => Err(Refusal::Other(0, outcome)),
+    }
 }
 
 /// Whether a text matches one of the patterns 0 to 20.
@@ -280,27 +329,78 @@ pub fn matches(pattern: usize, text: &[u8]) -> Result<bool, Refusal> {
 type Write = unsafe extern "C" fn(*const u8, usize, *mut u8, usize) -> raw::Answer;
 
 /// What a call writes of a text, the buffer grown to the need where it was too short.
-fn written(call: Write, text: &[u8]) -> Vec<u8> {
-    let mut out = vec![0; text.len()];
+fn written(call: Write, text: &[u8]) -> Result<Vec<u8>, Refusal> {
+    let mut out = Vec::new();
+    grow(&mut out, text.len());
     loop {
         let a = unsafe { call(text.as_ptr(), text.len(), out.as_mut_ptr(), out.len()) };
-        match a.number {
-            0 => {
-                out.truncate(a.length);
-                return out;
-            }
-            32 => out.resize(a.second, 0),
-            number => unreachable!("no text gives {number}"),
+        if a.number == 32 && grow(&mut out, a.second) {
+            continue;
         }
+        out.truncate(accepted(a)?.length);
+        return Ok(out);
     }
 }
 
-/// Each run of blanks as one space.
-pub fn collapse(text: &[u8]) -> Vec<u8> {
+/// Each run of blanks as one space (32 alone).
+pub fn collapse(text: &[u8]) -> Result<Vec<u8>, Refusal> {
     written(raw::levzhada_collapse, text)
 }
 
-/// & < > and " as entities.
-pub fn escape(text: &[u8]) -> Vec<u8> {
+/// & < > and " as entities (32 alone).
+pub fn escape(text: &[u8]) -> Result<Vec<u8>, Refusal> {
     written(raw::levzhada_escape, text)
+}
+
+#[cfg(test)]
+mod tests {
+    use super::*;
+
+    #[test]
+    fn buffers() {
+        let mut buffer = vec![7; 3];
+        assert!(grow(&mut buffer, 5));
+        assert_eq!(buffer, [0; 5]);
+        assert!(!grow(&mut buffer, 5));
+        assert!(!grow(&mut buffer, 4));
+        assert_eq!(buffer, [0; 5]);
+        assert!(!grow(&mut buffer, usize::MAX));
+        assert!(!grow(&mut buffer, isize::MAX as usize));
+    }
+
+    /// What an archive answers that is not ours.
+    unsafe extern "C" fn answering<const NUMBER: usize, const SECOND: usize>(
+        _: *const u8,
+        _: usize,
+        _: *mut u8,
+        _: usize,
+    ) -> raw::Answer {
+        raw::Answer {
+            number: NUMBER,
+            second: SECOND,
+            visits: 0,
+            length: 0,
+        }
+    }
+
+    #[test]
+    fn needs_that_cannot_be_met() {
+        const MOST: usize = usize::MAX;
+        assert_eq!(
+            written(answering::<32, MOST>, b"a"),
+            Err(Refusal::Out(MOST))
+        );
+        assert_eq!(written(answering::<32, 0>, b"a"), Err(Refusal::Out(0)));
+    }
+
+    #[test]
+    fn numbers_of_another_archive() {
+        assert_eq!(
+            written(answering::<33, 0>, b"a"),
+            Err(Refusal::Other(33, 0))
+        );
+        let other = written(answering::<99, 7>, b"a").unwrap_err();
+        assert_eq!(other, Refusal::Other(99, 7));
+        assert_eq!(other.numbers(), (99, 7));
+    }
 }

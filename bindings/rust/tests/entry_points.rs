@@ -113,8 +113,51 @@ fn patterns() {
 
 #[test]
 fn texts() {
-    assert_eq!(levzhada::collapse(b" a \n\tb"), b" a b");
-    assert_eq!(levzhada::collapse(b""), b"");
-    assert_eq!(levzhada::escape(b"a<\"&"), b"a&lt;&quot;&amp;");
-    assert_eq!(levzhada::escape(b"ab"), b"ab");
+    let ok = |bytes: &[u8]| Ok(bytes.to_vec());
+    assert_eq!(levzhada::collapse(b" a \n\tb"), ok(b" a b"));
+    assert_eq!(levzhada::collapse(b""), ok(b""));
+    assert_eq!(levzhada::escape(b"a<\"&"), ok(b"a&lt;&quot;&amp;"));
+    assert_eq!(levzhada::escape(b"ab"), ok(b"ab"));
+}
+
+/// What the header defines a name as.
+fn defined(name: &str) -> &'static str {
+    let header = include_str!("../../../include/levzhada.h");
+    let line = header
+        .lines()
+        .find(|l| l.starts_with("#define") && l.split(' ').nth(1) == Some(name));
+    line.and_then(|l| l.split(' ').nth(2)).expect(name)
+}
+
+#[test]
+fn the_header_has_the_same_numbers() {
+    let named = [
+        ("WRONG_LENGTH", Refusal::Length(0)),
+        ("WRONG_FORMAT", Refusal::Format(0)),
+        ("WRONG_COUNTS", Refusal::Counts),
+        ("WRONG_TREE", Refusal::Tree(0)),
+        ("WRONG_KIND", Refusal::Kind(0)),
+        ("WRONG_RANGE", Refusal::Range(0)),
+        ("NOT_UTF8", Refusal::Encoding(0)),
+        ("TOO_MANY_LIST_LEVELS", Refusal::ListLevels(0)),
+        ("TOO_MANY_OPEN_ROWS", Refusal::OpenRows(0)),
+        ("WORK_TOO_SHORT", Refusal::Work(0)),
+        ("OUT_TOO_SHORT", Refusal::Out(0)),
+        ("NO_ROW", Refusal::Row(0)),
+        ("NO_PATTERN", Refusal::Pattern(0)),
+    ];
+    assert_eq!(defined("LEVZHADA_ACCEPTED"), "0");
+    assert_eq!(defined("LEVZHADA_WRONG_OPTIONS"), "33");
+    assert_eq!(defined("LEVZHADA_INPUT_TOO_LONG"), "34");
+    for (name, refusal) in named {
+        let number = defined(&format!("LEVZHADA_{name}"));
+        assert_eq!(number, refusal.numbers().0.to_string(), "{name}");
+    }
+}
+
+#[test]
+fn the_header_has_the_same_version_and_stack() {
+    assert_eq!(defined("LEVZHADA_STACK"), levzhada::STACK.to_string());
+    let version = env!("CARGO_PKG_VERSION");
+    assert_eq!(defined("LEVZHADA_VERSION"), format!("\"{version}\""));
 }

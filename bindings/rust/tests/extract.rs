@@ -1,6 +1,7 @@
 //! The text of a page; tests/c/extract.c has more pages, and the buffers.
 
-use levzhada::{extract, Formatting, Options, Refusal, Text};
+use levzhada::{extract, Formatting, Options, Refusal};
+use std::process::Command;
 
 /// A body and so many rows below it, of one kind and of one name or value.
 fn rows(count: usize, kind: usize, bytes: &str) -> Vec<u8> {
@@ -21,58 +22,46 @@ fn rows(count: usize, kind: usize, bytes: &str) -> Vec<u8> {
     (sheet + &pool).into_bytes()
 }
 
-fn text(bytes: &str, visits: usize) -> Result<Text, Refusal> {
-    Ok(Text {
-        bytes: bytes.into(),
-        visits,
-    })
+fn formatted(formatting: Formatting) -> Options {
+    let mut options = Options::default();
+    options.formatting = formatting;
+    options
+}
+
+fn check_text(sheet: &[u8], options: &Options, text: &str, visits: usize) {
+    let t = extract(sheet, options).unwrap();
+    assert_eq!((t.text.as_str(), t.visits), (text, visits));
 }
 
 #[test]
 fn lines() {
     assert_eq!(&Options::default().line(), b"1011001100\n");
-    let options = Options {
-        formatting: Formatting::MinimalHtml,
-        icons: true,
-        ..Options::default()
-    };
+    let mut options = formatted(Formatting::MinimalHtml);
+    options.icons = true;
     assert_eq!(&options.line(), b"2011001101\n");
-    let options = Options {
-        formatting: Formatting::Off,
-        main_content: true,
-        links: true,
-        ..Options::default()
-    };
+    let mut options = formatted(Formatting::Off);
+    options.main_content = true;
+    options.links = true;
     assert_eq!(&options.line(), b"0111101100\n");
 }
 
 #[test]
 fn texts() {
     let standing = Options::default();
-    assert_eq!(extract(&rows(0, 3, ""), &standing), text("", 1));
-    assert_eq!(extract(&rows(1, 3, "hi"), &standing), text("hi", 3));
-    let html = Options {
-        formatting: Formatting::MinimalHtml,
-        ..standing
-    };
-    assert_eq!(extract(&rows(1, 3, "a&b"), &html), text("a&amp;b", 3));
+    check_text(&rows(0, 3, ""), &standing, "", 1);
+    check_text(&rows(1, 3, "hi"), &standing, "hi", 3);
+    check_text(&rows(1, 3, "é–𝄞"), &standing, "é–𝄞", 3);
+    let html = formatted(Formatting::MinimalHtml);
+    check_text(&rows(1, 3, "a&b"), &html, "a&amp;b", 3);
 }
 
 #[test]
 fn buffers_grow() {
     let word = "x".repeat(5000);
-    assert_eq!(
-        extract(&rows(1, 3, &word), &Options::default()),
-        text(&word, 3)
-    );
-    let html = Options {
-        formatting: Formatting::MinimalHtml,
-        ..Options::default()
-    };
-    assert_eq!(
-        extract(&rows(1, 3, &"&".repeat(4000)), &html),
-        text(&"&amp;".repeat(4000), 3)
-    );
+    check_text(&rows(1, 3, &word), &Options::default(), &word, 3);
+    let html = formatted(Formatting::MinimalHtml);
+    let escaped = "&amp;".repeat(4000);
+    check_text(&rows(1, 3, &"&".repeat(4000)), &html, &escaped, 3);
 }
 
 #[test]
@@ -91,4 +80,53 @@ fn refusals() {
         extract(&rows(1025, 1, "tr"), &standing),
         Err(Refusal::OpenRows(1026))
     );
+}
+
+#[test]
+fn a_thread_with_little_stack() {
+    let sheet = rows(19_999, 3, "ab");
+    let mut options = formatted(Formatting::MinimalHtml);
+    options.main_content = true;
+    let thread = std::thread::Builder::new().stack_size(levzhada::STACK + (64 << 10));
+    let read = thread.spawn(move || check_text(&sheet, &options, &"ab".repeat(19_999), 20_001));
+    read.unwrap().join().unwrap();
+}
+
+/// Runs a test once more, in a process of its own with so many KiB of address space; true in that process.
+fn is_limited(test: &str, kib: usize) -> bool {
+    const LIMITED: &str = "LEVZHADA_TEST_LIMITED";
+    if std::env::var_os(LIMITED).is_some() {
+        return true;
+    }
+    let run = Command::new("sh")
+        .args(["-c", "ulimit -v \"$2\" && exec \"$0\" --exact \"$1\""])
+        .arg(std::env::current_exe().unwrap())
+        .args([test, &kib.to_string()])
+        .env(LIMITED, "1")
+        .output()
+        .unwrap();
+    let said = String::from_utf8_lossy(&run.stdout);
+    assert!(run.status.success(), "{}: {said}", run.status);
+    assert!(said.contains("1 passed"), "{said}");
+    false
+}
+
+#[test]
+fn no_memory_for_work() {
+    if is_limited("no_memory_for_work", 1_000_000) {
+        let sheet = rows(1500, 3, &"x".repeat(4_194_300));
+        let refusal = extract(&sheet, &Options::default()).unwrap_err();
+        assert_eq!(refusal, Refusal::Work(6_291_450_000));
+        assert_eq!(refusal.numbers(), (31, 6_291_450_000));
+    }
+}
+
+#[test]
+fn no_memory_for_out() {
+    if is_limited("no_memory_for_out", 400_000) {
+        let sheet = rows(20, 3, &"&".repeat(4_194_300));
+        let refusal = extract(&sheet, &formatted(Formatting::MinimalHtml)).unwrap_err();
+        assert_eq!(refusal, Refusal::Out(419_430_000));
+        assert_eq!(refusal.numbers(), (32, 419_430_000));
+    }
 }
