@@ -1,5 +1,6 @@
-/* How much stack a call takes, held against what the header states. A call runs in a thread whose stack was painted; what it takes reaches
-   from the caller's frame to the lowest byte that lost its paint. The sheets are made at random, from names and classes that are told apart. */
+/* How much stack a call takes, held against what the header states. A call runs in a thread whose stack was painted; what it takes
+   reaches from the caller's frame to the lowest byte that lost its paint. The sheets are made at random, from names and classes that are
+   told apart. */
 #include "check.h"
 
 #include <pthread.h>
