@@ -10,7 +10,7 @@ use Rattle.text.specs.Text.{isSpace, struck}
 use Rattle.text.proofs.StruckLaws.{struck-rstrip}
 use Rattle.tree.specs.Page.{Page}
 use Rattle.html2text.specs.Demand.{BlanksRight, CellsRight, FurtherMarks, TextsArePieces, furtherMarked, visiblePieces}
-use Rattle.html2text.specs.Extract.{going, serialized, finished, hidden, entries}
+use Rattle.html2text.specs.Extract.{going, serialized, hidden, entries}
 use Rattle.html2text.specs.Pieces.{pieces, struckPieces, without}
 use Rattle.html2text.specs.Serialize.{State}
 use Rattle.html2text.specs.Theorems.{PageRight}
@@ -18,6 +18,7 @@ use Rattle.html2text.specs.Walk.{events, treeOf}
 use Rattle.html2text.proofs.BlankRuns.{blanks-of-calm}
 use Rattle.html2text.proofs.CollectLaws.{plain-all}
 use Rattle.html2text.proofs.FurtherPieces.{further, further-pieces}
+use Rattle.html2text.proofs.GivenLaws.{TextOf}
 use Rattle.html2text.proofs.LostStrip.{kept-pieces}
 use Rattle.html2text.proofs.OffLaws.{off, Written, serialized-off}
 use Rattle.common.proofs.TestLaws.{or-left}
@@ -26,12 +27,6 @@ use Rattle.html2text.proofs.Standing.{page-parents, page-cells}
 off-same : (o : ExtractOptions) → o .formatting ≡ Off → o ≡ off o
 off-same o e =
     λ i. record { formatting = e i; «main_content» = o .«main_content»; «list_bullets» = o .«list_bullets»; «alt_texts» = o .«alt_texts»; links = o .links; «form_fields» = o .«form_fields»; comments = o .comments; «post_meta» = o .«post_meta»; «hidden_elements» = o .«hidden_elements»; icons = o .icons }
-
--- t is the text of an extraction of the page
-pub record TextOf (filtered : Page → ExtractOptions → ℕ → Bool) (p : Page) (o : ExtractOptions) (t : Bytes) : Type 0 where
-  pub state : State
-  pub run : serialized o (entries (filtered p o) p o) ≡ going state
-  pub text : t ≡ finished state
 
 -- marked or filtered out in the second page: in the first, or a further mark
 marks-further : (m m′ f : Bool) → (m ≡ true → m′ ≡ true) → (m′ || f) ≡ ((m || f) || (m′ && not m))

@@ -5,9 +5,15 @@ pub mod BoundLaws
 pub mod CollectLaws
 pub mod Demand3Laws
 pub mod DemandLaws
+pub mod EachLaws
+pub mod EncodedBytes
+pub mod EncodedLaws
+pub mod EncodedPage
+pub mod EncodedSteps
 pub mod ExampleLaws
 pub mod FurtherPieces
 pub mod FusionLaws
+pub mod GivenLaws
 pub mod GoingLaws
 pub mod LevelLaws
 pub mod LevelMetLaws

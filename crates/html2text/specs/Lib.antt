@@ -2,6 +2,7 @@ pub mod Bounds
 pub mod Collect
 pub mod Demand
 pub mod Demand3
+pub mod Encoded
 pub mod Examples
 pub mod Extract
 pub mod Fused
