@@ -1,7 +1,7 @@
 -- The numbers of a run stay within their bounds.
 use mathlib.Core.Path.{_≡_, refl, ap, _∙_}
 use mathlib.Core.Bool.{Bool, true, false, _&&_, _||_, not}
-use mathlib.Core.List.{List, [], _∷_, _++_}
+use mathlib.Core.List.{List, [], _∷_}
 use Prim.Native.Nat.{ℕ, suc, _+_, _*_, _≤_, _<_}
 use native.Mathlib.Nat.{zero-add}
 use native.Mathlib.Omega.{arith}
@@ -167,12 +167,3 @@ module _ (o : ExtractOptions) where
   run-bounded es few adds =
       let b : Bounded (length es) (fedAll o es idle) = rw (zero-add (length es)) at (bounded-all es 0 idle (omega arith) adds bounded-idle) in
       record { fed = b; closing = bounded-closed o b few }
-
-  -- events one after the other
-  pub each-append : (es fs : List Event) → EachAdds o es → EachAdds o fs → EachAdds o (es ++ fs)
-  each-append [] fs a b = b
-  each-append (e ∷ es) fs a b = (a .0, each-append es fs (a .1) b)
-
-  pub each-before : (es fs : List Event) → EachAdds o (es ++ fs) → EachAdds o es
-  each-before [] fs a = tt
-  each-before (e ∷ es) fs a = (a .0, each-before es fs (a .1))

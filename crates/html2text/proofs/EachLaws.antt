@@ -7,16 +7,13 @@ use lib.ListN.{length}
 use Rattle.tree.specs.Forest.{Forest, empty, node}
 use Rattle.tree.specs.Page.{Page}
 use Rattle.tree.specs.Rows.{childrenOf, firstChildOf, nextSiblingOf}
+use Rattle.html2text.specs.Bounds.{Each}
 use Rattle.html2text.specs.Collect.{Event}
 use Rattle.html2text.specs.Walk.{hasTrees, leftOut, eventAt, events, treeOf}
 use Rattle.html2text.proofs.Standing.{Stands, root-stands}
 
--- P holds of all events
-abbrev pub Each : (Event → Type 0) → List Event → Type 0
-Each P [] = Unit {0}
-Each P (e ∷ es) = P e × Each P es
-
 module _ (P : Event → Type 0) where
+  -- events one after the other
   each-append : (es fs : List Event) → Each P es → Each P fs → Each P (es ++ fs)
   each-append [] fs a b = b
   each-append (e ∷ es) fs a b = (a .0, each-append es fs (a .1) b)

@@ -25,9 +25,10 @@ use Rattle.tree.proofs.AttributeLines.{counts-fit}
 use Rattle.tree.proofs.NodeLaws.{by-kind}
 use Rattle.utf8.specs.Abnf.{UTF8-octets, none}
 use Rattle.utf8.specs.Valid.{expect, valid}
+use Rattle.html2text.specs.Bounds.{Each}
 use Rattle.html2text.specs.Collect.{Event, Entry, tagNumber, attr, pushes, pushed, isLink, isBreak, linkText, isUnshownType, fieldValue, addedByElement, added, amended, onLast, collect, collectAll}
 use Rattle.html2text.specs.Walk.{events, treeOf}
-use Rattle.html2text.proofs.EachLaws.{Each, tree-each}
+use Rattle.html2text.proofs.EachLaws.{tree-each}
 use Rattle.html2text.proofs.EncodedBytes.{octets-valid, octets-append, octets-trim, octets-escape}
 use Rattle.html2text.proofs.PageLaws.{page-right}
 

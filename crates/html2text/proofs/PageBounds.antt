@@ -27,11 +27,11 @@ use Rattle.tree.specs.Forest.{Forest, empty, node}
 use Rattle.tree.specs.Node.{Node, attribute, attributeOrEmpty}
 use Rattle.tree.specs.Page.{nodeAt, pageOf}
 use Rattle.tree.proofs.NodeLaws.{by-kind}
-use Rattle.html2text.specs.Bounds.{mostAdded, Adds, EachAdds, EventsBounded}
+use Rattle.html2text.specs.Bounds.{mostAdded, Adds, EventsBounded}
 use Rattle.html2text.specs.Collect.{Event, tagNumber, attr, isLink, isBreak, linkText, isUnshownType, fieldValue, addedByElement, added}
 use Rattle.html2text.specs.Serialize.{one}
 use Rattle.html2text.specs.Walk.{hasTrees, leftOut, eventAt, events, visits, treeOf}
-use Rattle.html2text.proofs.BoundLaws.{each-append}
+use Rattle.html2text.proofs.EachLaws.{tree-each}
 use Rattle.html2text.proofs.PageLaws.{page-right}
 use Rattle.html2text.proofs.WalkLaws.{walk-of-tree}
 
@@ -115,12 +115,6 @@ row-few true children begin end below rest v w h k = omega arith
 row-few false true begin end below rest v w h k = omega (arith, length-append (below ++ end ∷ []) rest, length-append below (end ∷ []))
 row-few false false begin end below rest v w h k = omega (arith, length-append (below ++ []) rest, length-append below [])
 
-row-adds : (o : ExtractOptions) (left children : Bool) (begin end : Event) (below rest : List Event) → Adds o begin → Adds o end → EachAdds o below → EachAdds o rest
-    → EachAdds o (cond left [] (begin ∷ (below ++ cond children (end ∷ []) [])) ++ rest)
-row-adds o true children begin end below rest a b h k = k
-row-adds o false true begin end below rest a b h k = (a, each-append o (below ++ end ∷ []) rest (each-append o below (end ∷ []) h (b, tt)) k)
-row-adds o false false begin end below rest a b h k = (a, each-append o (below ++ []) rest (each-append o below [] h tt) k)
-
 module _ (nodeOf : ℕ → Node) (hidden : ℕ → Bool) where
   events-few : (d : ℕ) (f : Forest ℕ) → length (events nodeOf hidden d f) ≤ visits nodeOf hidden f
   unfolding events visits
@@ -129,18 +123,10 @@ module _ (nodeOf : ℕ → Node) (hidden : ℕ → Bool) where
       row-few (leftOut nodeOf hidden i) (hasTrees children) (eventAt nodeOf hidden i (hasTrees children) d false) (eventAt nodeOf hidden i true d true) (events nodeOf hidden (suc d) children) (events nodeOf hidden d rest)
       (visits nodeOf hidden children) (visits nodeOf hidden rest) (events-few (suc d) children) (events-few d rest)
 
-  events-add : (o : ExtractOptions) → ((i : ℕ) (end : Bool) (current : ℕ) → length (added o (nodeOf i) end current) ≤ mostAdded)
-      → (d : ℕ) (f : Forest ℕ) → EachAdds o (events nodeOf hidden d f)
-  unfolding events
-  events-add o short d empty = tt
-  events-add o short d (node i children rest) =
-      row-adds o (leftOut nodeOf hidden i) (hasTrees children) (eventAt nodeOf hidden i (hasTrees children) d false) (eventAt nodeOf hidden i true d true) (events nodeOf hidden (suc d) children) (events nodeOf hidden d rest)
-      (record { short = short i false }) (record { short = short i true }) (events-add o short (suc d) children) (events-add o short d rest)
-
 pub events-bounded : {s : Bytes} {l : Layout} → Accepted s l → (hidden : ℕ → Bool) (o : ExtractOptions) → EventsBounded s l hidden o
 events-bounded {s} {l} accepted hidden o =
     let p = pageOf s l in
     record {
       few = omega (arith, events-few (nodeAt s l) hidden 0 (treeOf p), walk-of-tree p (λ i d. hidden i) hidden o (λ i d e. refl) (page-right accepted) .most, depths-from-length s l 0 (l .nodes), accepted .sized .nodes);
-      each = events-add (nodeAt s l) hidden o (node-adds (accepted .sized) o) 0 (treeOf p);
+      each = tree-each p hidden (Adds o) (λ i h children d end. record { short = node-adds (accepted .sized) o i end }) (page-right accepted .root);
     }

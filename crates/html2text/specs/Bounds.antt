@@ -55,10 +55,13 @@ pub record Bounded (k : ℕ) (F : Fused) : Type 0 where
 pub record Adds (o : ExtractOptions) (e : Event) : Type 0 where
   pub short : (current : ℕ) → length (added o (e .node) (e .end) current) ≤ mostAdded
 
--- all of them do
+-- P holds of all events
+abbrev pub Each : (Event → Type 0) → List Event → Type 0
+Each P [] = Unit {0}
+Each P (e ∷ es) = P e × Each P es
+
 abbrev pub EachAdds : ExtractOptions → List Event → Type 0
-EachAdds o [] = Unit {0}
-EachAdds o (e ∷ es) = Adds o e × EachAdds o es
+EachAdds o = Each (Adds o)
 
 -- what is to be shown: before an event, and after the last one when the open entry is taken too
 pub record RunBounded (o : ExtractOptions) (es : List Event) : Type 0 where
