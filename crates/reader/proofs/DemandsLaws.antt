@@ -2,14 +2,11 @@
 use mathlib.Core.Path.{_≡_, refl, sym, ap, _∙_}
 use mathlib.Core.Bool.{Bool, true, false, cond}
 use mathlib.Core.List.{List, [], _∷_}
-use Prim.Native.Nat.{ℕ, _-_}
+use Prim.Native.Nat.{ℕ}
 use native.Mathlib.Omega.{arith}
 use lib.Dec.{ltb, lit≤}
-use lib.ListN.{length, take, replicate}
-use lib.Seq.{take-append-seam}
+use lib.ListN.{length}
 use Rattle.common.specs.Bytes.{Bytes, padded}
-use Rattle.common.proofs.Choice.{absurd-test}
-use Rattle.html2text.specs.Bounds.{Going}
 use Rattle.html2text.specs.Demand3.{Gives}
 use Rattle.html2text.specs.Extract.{Run, going, tooManyLevels, tooManyRows, finished, concluded, outThen, workThen, hidden, entries, passes, workNeed, workNeedOf, serialized, extraction, outAfter, workAfter, numbers}
 use Rattle.html2text.specs.Extract as extract
@@ -19,6 +16,8 @@ use Rattle.html2text.specs.Walk.{Sofar}
 use Rattle.html2text.specs.declared.Extraction.{Extraction}
 use Rattle.html2text.specs.declared.Extraction.the-variants.{Text, Refused, ListLevels, OpenRows, WorkTooShort, OutTooShort}
 use Rattle.html2text.proofs.Demand3Laws as html2text
+use Rattle.html2text.proofs.GivenLaws.{gives-text}
+use Rattle.html2text.proofs.GoingLaws.{going-at}
 use Rattle.html2text.proofs.PageLaws.{page-right}
 use Rattle.html2text.proofs.WalkLaws.{walk-of-tree}
 use Rattle.options.specs.declared.ExtractOptions.{ExtractOptions}
@@ -100,29 +99,6 @@ demand-1 s o out work =
 
 -- ---- 2
 
-abbrev isText : Extraction → Bool
-isText (Text visits len) = true
-isText (Refused v) = false
-isText (ListLevels line) = false
-isText (OpenRows line) = false
-isText (WorkTooShort need) = false
-isText (OutTooShort need) = false
-
--- a text that is given is that of the run
-concluded-text : (need visits : ℕ) (X : State) (r : Run) (out work t : Bytes) (v : ℕ) → Going (λ S. S ≡ X) r
-    → concluded need visits r (length out) (length work) ≡ Text v (length t) → take (length t) (outThen need visits r out work) ≡ t → t ≡ finished X
-concluded-text need visits X (tooManyLevels line) out work t v g e f = absurd-test (ap isText e) refl
-concluded-text need visits X (tooManyRows line) out work t v g e f = absurd-test (ap isText e) refl
-concluded-text need visits X (going S) out work t v g e f = go (ltb (length work) need) (ltb (length out) (S .out .peak)) e f
-  where
-    go : (a b : Bool) → cond a (WorkTooShort need) (cond b (OutTooShort (S .out .peak)) (Text visits (length (finished S)))) ≡ Text v (length t)
-        → take (length t) (cond a out (cond b out (padded (finished S) (length out)))) ≡ t → t ≡ finished X
-    go true b p q = absurd-test (ap isText p) refl
-    go false true p q = absurd-test (ap isText p) refl
-    go false false p q =
-        let n : length t ≡ length (finished S) = cc in
-        sym q ∙ ap (λ (k : ℕ). take k (padded (finished S) (length out))) n ∙ take-append-seam (finished S) (replicate (length out - length (finished S)) 0) ∙ ap finished g
-
 module _ (s : Bytes) (l : Layout) (o : ExtractOptions) (e : verdictOf 8 s ≡ Sheet l) where
   abbrev page : Page
   page = pageOf s l
@@ -134,10 +110,12 @@ module _ (s : Bytes) (l : Layout) (o : ExtractOptions) (e : verdictOf 8 s ≡ Sh
   walk = walk-of-tree page (rustHidden page o) (hidden leftOut page o) o (hides-rows page o) (page-right (accepts (lit≤ tt) e .1))
 
   rust-text : o .icons ≡ false → (out work t : Bytes) → Gives filters s o out work t → t ≡ rustText page o
-  unfolding extract.extractionOf extract.outAfterOf extraction outAfter rustText
+  unfolding rustText
   rust-text icons out work t g =
       let es = entries leftOut page o in
-      concluded-text (workNeed leftOut page o) (passes leftOut page o) (rustState o es) (serialized o es) out work t (g .visits) (going-serialized o es) (rw e at (g .answer)) (rw e at (g .text))
+      let given = gives-text filters l e g in
+      given .text
+      ∙ ap finished (going-at (λ S. S ≡ rustState o es) (going-serialized o es) (given .run))
       ∙ ap (λ (so : Sofar). finished (rustState o (so .nodes))) (sym (walk .same))
       ∙ ap (λ (a : ExtractOptions). finished (rustState a (rustLoop page a .nodes))) (rust-options o icons)
 

@@ -2,6 +2,7 @@
 use lib.Dec.{lit≤}
 use Rattle.html2text.proofs.BoundLaws.{run-bounded}
 use Rattle.html2text.proofs.Demand3Laws.{demand-3}
+use Rattle.html2text.proofs.EncodedLaws.{text-is-utf8}
 use Rattle.html2text.proofs.ExampleLaws.{examples-are-right}
 use Rattle.html2text.proofs.FusionLaws.{fusion}
 use Rattle.html2text.proofs.LevelLaws.{step-levels}
@@ -29,7 +30,7 @@ passes = record {
 }
 
 returns : tie.Need-returns
-returns c = (walk, (passes, (demand-3, examples-are-right)))
+returns c = (walk, (passes, (demand-3, (text-is-utf8, examples-are-right))))
 
 pub theorems-spec : {M : Type 1} → statement M
 theorems-spec = tie.close (tie.spec returns)
