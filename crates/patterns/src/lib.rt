@@ -14,6 +14,7 @@ ghost use Rattle.patterns.specs.Answers.{answerOf, matched, numbers};
 
 pub mod masks;
 pub mod table;
+pub mod theorems;
 
 pub enum Matched {
     Yes,

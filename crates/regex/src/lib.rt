@@ -6,6 +6,8 @@ ghost use Rattle.regex.specs.Regex.{between, inClass, isDash, isHexDigit
 ghost use Rattle.regex.specs.Joined.{joined};
 ghost use Rattle.regex.specs.Meaning.{blockedOf, classOf, holds, moveOf, stepOf, stepsOf, StepTable};
 
+pub mod theorems;
+
 // Where a step leads.
 enum Move {
     // the pattern fits
