@@ -13,7 +13,7 @@ ghost use Rattle.sheet.specs.Accepted.{Accepted};
 ghost use Rattle.sheet.specs.Layout.{depths, rowAt};
 ghost use Rattle.text.specs.Text.{collapse, collapseFrom, isSpace};
 ghost use Rattle.tree.specs.Page.{nodeAt};
-ghost use Rattle.links.specs.Counting.{CountsUpTo, Room, aroundAfter, countRow, countsOf, withText};
+ghost use Rattle.links.specs.Counting.{CountsUpTo, Room, aroundAfter, countRow, withText};
 ghost use Rattle.links.specs.Links.{isLink};
 
 pub struct Counts {
@@ -159,12 +159,4 @@ pub fn count_up_to(s: &[u8], l: Layout, i: usize, most: usize) -> Counts
 {
     let mut around = [0; 502];
     count_rows(s, l, i, most, &mut around)
-}
-
-// Both counts of an element.
-pub fn text_and_links(s: &[u8], l: Layout, i: usize) -> Counts
-    requires { ⌜ Accepted (now s) l × (i < l .nodes) × (rowAt (now s) l i .kind ≡ 1) ⌝ }
-    ensures { λ r. ⌜ r ≡ countsOf (nodeAt (now (s .entry)) l) (depths (now (s .entry)) l) i ⌝ }
-{
-    count_up_to(s, l, i, 18446744073709551615)
 }

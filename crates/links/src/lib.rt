@@ -2,6 +2,7 @@
 pub mod cluster;
 pub mod counts;
 pub mod questions;
+pub mod theorems;
 
 ghost use mathlib.Core.Path.{_≡_};
 ghost use Rattle.links.specs.Links.{exceeds, fifthOf500, fifthOfAny, isTooLong, measureOf, threeFifthsOf1500, threeFifthsOf800};
