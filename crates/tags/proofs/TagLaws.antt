@@ -8,7 +8,7 @@ use borrow.Author.Tests.{not-true}
 use Rattle.common.specs.Bytes.{Bytes, codes, same}
 use Rattle.common.proofs.Choice.{by-test, absurd-test, and-parts}
 use Rattle.common.proofs.Equality.{same-true}
-use Rattle.tags.specs.Tags.{tagNames, tagOf, nameOf, isBlock, isTr, isCell, isUl, isOl, isList, isLi, isPre, isBr, isHeadingOrP, isBigBlock, isBlockTag, isA, isTextarea, isImage, isButton, isInput, TagTests}
+use Rattle.tags.specs.Tags.{tagNames, tagOf, nameOf, isBlock, isTr, isCell, isUl, isOl, isList, isLi, isPre, isBr, isHeadingOrP, isBigBlock, isBlockTag, isA, isTextarea, isImage, isButton, isInput, isArticle, isDiv, isFooter, isADivOrLi, TagsTellNames}
 use Rattle.tags.specs.Words.{words, firstWord, otherWords, is, oneOf, numberFrom}
 use Rattle.tags.proofs.WordLaws.{each, each-at, no-number, one-word, by-words}
 
@@ -51,7 +51,7 @@ written-name name h =
     (λ e. same-true (nameOf (tagOf name)) name (rw h at (each-at keeps known refl name e)))
     (λ e. absurd-test h (ap isWritten (unknown name e)))
 
-pub tag-tests : (name : Bytes) → TagTests name
+pub tag-tests : TagsTellNames
 unfolding isWritten tagOf tagNames isBlock oneOf numberFrom words codes same firstWord otherWords
 tag-tests name = record {
   tr = told-one isTr (codes "tr") refl name;
@@ -70,5 +70,9 @@ tag-tests name = record {
   image = told isImage (words "img area") refl name;
   button = told-one isButton (codes "button") refl name;
   input = told-one isInput (codes "input") refl name;
+  article = told-one isArticle (codes "article") refl name;
+  div = told-one isDiv (codes "div") refl name;
+  footer = told-one isFooter (codes "footer") refl name;
+  aDivOrLi = told isADivOrLi (words "a div li") refl name;
   written = written-name name;
 }

@@ -80,6 +80,20 @@ isButton t = eqb t 41
 abbrev pub isInput : ℕ → Bool
 isInput t = eqb t 42
 
+-- those that filters.rs tells apart besides
+abbrev pub isArticle : ℕ → Bool
+isArticle t = eqb t 16
+
+abbrev pub isDiv : ℕ → Bool
+isDiv t = eqb t 23
+
+abbrev pub isFooter : ℕ → Bool
+isFooter t = eqb t 28
+
+-- `matches!(name.as_str(), "a" | "div" | "li")`
+abbrev pub isADivOrLi : ℕ → Bool
+isADivOrLi t = isA t || (isDiv t || isLi t)
+
 -- what is to be shown: each test on the number says what the Rust's test on the name says
 pub record TagTests (name : Bytes) : Type 0 where
   pub tr : isTr (tagOf name) ≡ is name "tr"
@@ -98,5 +112,12 @@ pub record TagTests (name : Bytes) : Type 0 where
   pub image : isImage (tagOf name) ≡ oneOf name (words "img area")
   pub button : isButton (tagOf name) ≡ is name "button"
   pub input : isInput (tagOf name) ≡ is name "input"
+  pub article : isArticle (tagOf name) ≡ is name "article"
+  pub div : isDiv (tagOf name) ≡ is name "div"
+  pub footer : isFooter (tagOf name) ≡ is name "footer"
+  pub aDivOrLi : isADivOrLi (tagOf name) ≡ oneOf name (words "a div li")
   -- the names that are written
   pub written : (isHeadingOrP (tagOf name) || isList (tagOf name)) ≡ true → nameOf (tagOf name) ≡ name
+
+abbrev pub TagsTellNames : Type 0
+TagsTellNames = (name : Bytes) → TagTests name

@@ -7,6 +7,8 @@ ghost use Rattle.tags.specs.Packed.{packOf, tagPacked};
 ghost use Rattle.tags.specs.Tags.{tagOf};
 ghost use Rattle.tags.specs.Words.{oneOf, words, wordsOf};
 
+pub mod theorems;
+
 // Where the word at from ends: before the first space, or with the line.
 fn word_end(words: &[u8], from: usize) -> usize
     requires { ⌜ from ≤ length (now words) ⌝ }
