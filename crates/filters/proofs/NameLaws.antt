@@ -1,7 +1,7 @@
 -- Tests on a name by its tag's number.
 use mathlib.Core.Path.{_≡_, refl, sym, ap, _∙_}
 use mathlib.Core.Bool.{Bool, true, false, _&&_, _||_, not, Bool·beq, or-false, and-false}
-use mathlib.Core.List.{List, [], _∷_}
+use mathlib.Core.List.{List}
 use Prim.Native.Nat.{ℕ, _≤_, _<_}
 use native.Mathlib.Omega.{arith}
 use lib.Dec.{eqb, leb}
@@ -9,39 +9,40 @@ use borrow.Author.Tests.{ne-eqb, le-leb, lt-leb, eqb-false}
 use Rattle.common.specs.Bytes.{Bytes, codes, same}
 use Rattle.common.proofs.Choice.{by-test}
 use Rattle.common.proofs.Equality.{same-not}
-use Rattle.tags.specs.Tags.{tagNames, tagOf, isBlock, isBlockTag}
+use Rattle.patterns.specs.Patterns.{articleCls, skipLinkCls}
+use Rattle.regex.specs.Match.{finds}
+use Rattle.tags.specs.Tags.{tagNames, tagOf, isUl, isArticle, isDiv, isFooter, isADivOrLi, isBlockTag}
 use Rattle.tags.specs.Words.{words, firstWord, otherWords, is, oneOf, numberFrom}
-use Rattle.tags.proofs.TagLaws.{known, unknown, tells, told, told-one, tag-tests}
+use Rattle.tags.proofs.TagLaws.{known, unknown, tag-tests}
 use Rattle.tags.proofs.WordLaws.{each, each-at, beq-true, one-of-cons, one-word, none-of, none-of-none}
-use Rattle.filters.specs.Filters.{notBlock}
+use Rattle.filters.specs.Filters.{notBlock, skipLink, article}
 use Rattle.common.proofs.TestLaws.{or-no, and-no, and-yes}
 
 module _ (name : Bytes) {tag : ℕ} (tag-is : tag ≡ tagOf name) where
-  is-numbered : (n : ℕ) (w : Bytes) → tells (λ t. eqb t n) (w ∷ []) ≡ true → eqb tag n ≡ same name w
-  is-numbered n w t = ap (λ (x : ℕ). eqb x n) tag-is ∙ told-one (λ t. eqb t n) w t name
+  pub footer-number : isFooter tag ≡ is name "footer"
+  footer-number = ap isFooter tag-is ∙ tag-tests name .footer
 
-  are-numbered : (test : ℕ → Bool) (ws : List Bytes) → tells test ws ≡ true → test tag ≡ oneOf name ws
-  are-numbered test ws t = ap test tag-is ∙ told test ws t name
+  -- what a test on the number answers is what the test on the name does
+  module _ {r : Bool} where
+    pub skip-link-named : (t : Bytes) → r ≡ (isADivOrLi tag && finds skipLinkCls t) → r ≡ skipLink name t
+    unfolding skipLink
+    skip-link-named t e = e ∙ ap (λ (q : Bool). q && finds skipLinkCls t) (ap isADivOrLi tag-is ∙ tag-tests name .aDivOrLi)
 
-  pub article-number : eqb tag 16 ≡ is name "article"
-  unfolding tagOf tagNames numberFrom words firstWord otherWords codes oneOf same
-  article-number = is-numbered 16 (codes "article") refl
+    pub article-named : (t : Bytes) → r ≡ (isArticle tag || finds articleCls t) → r ≡ article name t
+    unfolding article
+    article-named t e = e ∙ ap (λ (q : Bool). q || finds articleCls t) (ap isArticle tag-is ∙ tag-tests name .article)
 
-  pub a-div-or-li : (eqb tag 37 || (eqb tag 23 || eqb tag 5)) ≡ oneOf name (words "a div li")
-  unfolding tagOf tagNames numberFrom words firstWord otherWords codes oneOf same
-  a-div-or-li = are-numbered (λ t. eqb t 37 || (eqb t 23 || eqb t 5)) (words "a div li") refl
+    pub ul-named : (b : Bool) → r ≡ (isUl tag && b) → r ≡ (is name "ul" && b)
+    ul-named b e = e ∙ ap (λ (q : Bool). q && b) (ap isUl tag-is ∙ tag-tests name .ul)
 
-  pub footer-number : eqb tag 28 ≡ is name "footer"
-  unfolding tagOf tagNames numberFrom words firstWord otherWords codes oneOf same
-  footer-number = is-numbered 28 (codes "footer") refl
+    pub article-cluster-named : (b : Bool) → r ≡ (isArticle tag && b) → r ≡ (is name "article" && b)
+    article-cluster-named b e = e ∙ ap (λ (q : Bool). q && b) (ap isArticle tag-is ∙ tag-tests name .article)
 
-  pub ul-number : eqb tag 3 ≡ is name "ul"
-  unfolding tagOf tagNames numberFrom words firstWord otherWords codes oneOf same
-  ul-number = is-numbered 3 (codes "ul") refl
+    pub not-div-named : (b : Bool) → r ≡ (not (isDiv tag) || b) → r ≡ (not (is name "div") || b)
+    not-div-named b e = e ∙ ap (λ (q : Bool). not q || b) (ap isDiv tag-is ∙ tag-tests name .div)
 
-  pub div-number : eqb tag 23 ≡ is name "div"
-  unfolding tagOf tagNames numberFrom words firstWord otherWords codes oneOf same
-  div-number = is-numbered 23 (codes "div") refl
+    pub div-cluster-named : (a b : Bool) → r ≡ (a && (isDiv tag && b)) → r ≡ (a && (is name "div" && b))
+    div-cluster-named a b e = e ∙ ap (λ (q : Bool). a && (q && b)) (ap isDiv tag-is ∙ tag-tests name .div)
 
   -- a name with another number is another name
   other : (w : Bytes) {n : ℕ} → n ≡ tagOf w → (tag ≡ n → ⊥) → same name w ≡ false

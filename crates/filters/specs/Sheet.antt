@@ -1,4 +1,5 @@
 -- What the filters ask of a row of a sheet.
+use mathlib.Core.Path.{_≡_}
 use mathlib.Core.Bool.{Bool}
 use Prim.Native.Nat.{ℕ}
 use Rattle.common.specs.Bytes.{Bytes}
@@ -9,6 +10,11 @@ use Rattle.sheet.specs.declared.line.Layout.{Layout}
 use Rattle.tags.specs.Tags.{tagOf}
 use Rattle.tree.specs.Node.{tag}
 use Rattle.tree.specs.Page.{nodeAt}
+
+-- some name has this number: 43 and what is above it have none
+pub record IsTag (number : ℕ) : Type 0 where
+  pub name : Bytes
+  pub number-is : number ≡ tagOf name
 
 module _ (s : Bytes) (l : Layout) (i : ℕ) where
   -- the number of its tag

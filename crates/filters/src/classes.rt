@@ -1,16 +1,16 @@
 // Tests on class and id. A set of candidates goes with each text that is searched: the class alone, or class and id as one.
 use patterns::matches_among;
 use patterns::matches_joined;
-ghost use mathlib.Core.Bool.{_||_};
+ghost use mathlib.Core.Bool.{_&&_, _||_};
 ghost use mathlib.Core.List.{[]};
 ghost use mathlib.Core.Path.{_≡_};
-ghost use lib.Dec.{eqb};
-ghost use Rattle.common.specs.Bytes.{Bytes};
 ghost use Rattle.patterns.specs.Candidates.{Candidates};
+ghost use Rattle.patterns.specs.Patterns.{articleCls, skipLinkCls};
 ghost use Rattle.regex.specs.Joined.{joined};
-ghost use Rattle.tags.specs.Tags.{tagOf};
+ghost use Rattle.regex.specs.Match.{finds};
+ghost use Rattle.tags.specs.Tags.{isADivOrLi, isArticle};
 ghost use Rattle.filters.specs.Classes.{anyMatch, ArePatterns, Joinable, Tables};
-ghost use Rattle.filters.specs.Filters.{article, commentSection, landmark, notDisplayed, signinMetaOrSocial, skipLink};
+ghost use Rattle.filters.specs.Filters.{commentSection, landmark, notDisplayed, signinMetaOrSocial};
 
 // Whether one of the patterns matches.
 pub fn any_among(
@@ -55,7 +55,7 @@ pub fn not_displayed(
 }
 
 fn is_a_div_or_li(tag: u8) -> bool
-    ensures { λ r. ⌜ r ≡ (eqb tag 37 || (eqb tag 23 || eqb tag 5)) ⌝ }
+    ensures { λ r. ⌜ r ≡ isADivOrLi tag ⌝ }
 {
     if tag == 37 {
         return true;
@@ -75,7 +75,7 @@ pub fn skip_link(
     id: &[u8],
 ) -> bool
     requires { ⌜ Tables (now steps) (now masks) × Joinable (now class) (now id) × Candidates set (joined (now class) (now id)) ⌝ }
-    ensures { λ r. ⌜ ((name : Bytes) → tag ≡ tagOf name → r ≡ skipLink name (joined (now (class .entry)) (now (id .entry)))) ⌝ }
+    ensures { λ r. ⌜ r ≡ (isADivOrLi tag && finds skipLinkCls (joined (now (class .entry)) (now (id .entry)))) ⌝ }
 {
     if is_a_div_or_li(tag) {
         return matches_among(steps, masks, set, 9, class, id);
@@ -131,7 +131,7 @@ pub fn article(
     id: &[u8],
 ) -> bool
     requires { ⌜ Tables (now steps) (now masks) × Joinable (now class) (now id) × Candidates set (joined (now class) (now id)) ⌝ }
-    ensures { λ r. ⌜ ((name : Bytes) → tag ≡ tagOf name → r ≡ article name (joined (now (class .entry)) (now (id .entry)))) ⌝ }
+    ensures { λ r. ⌜ r ≡ (isArticle tag || finds articleCls (joined (now (class .entry)) (now (id .entry)))) ⌝ }
 {
     if tag == 16 {
         return true;

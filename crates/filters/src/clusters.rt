@@ -7,12 +7,10 @@ ghost use mathlib.Core.Bool.{_&&_, _||_, cond, false, not};
 ghost use mathlib.Core.Path.{_≡_};
 ghost use Prim.Native.Nat.{_<_};
 ghost use lib.Dec.{leb, ltb};
-ghost use Rattle.common.specs.Bytes.{Bytes};
 ghost use Rattle.links.specs.Links.{fifthOf500, fifthOfAny, threeFifthsOf1500, threeFifthsOf800};
 ghost use Rattle.sheet.specs.Accepted.{Accepted};
 ghost use Rattle.sheet.specs.Layout.{depths};
-ghost use Rattle.tags.specs.Tags.{tagOf};
-ghost use Rattle.tags.specs.Words.{is};
+ghost use Rattle.tags.specs.Tags.{isArticle, isDiv, isUl};
 ghost use Rattle.tree.specs.Page.{nodeAt};
 ghost use Rattle.filters.specs.Footer.{Above, followed};
 ghost use Rattle.filters.specs.Sheet.{clusterAt};
@@ -40,7 +38,7 @@ pub fn footer(s: &[u8], l: Layout, i: usize, depth: usize, stack: &[usize]) -> b
 
 pub fn ul_cluster(s: &[u8], l: Layout, i: usize, tag: u8, depth: usize) -> bool
     requires { ⌜ Accepted (now s) l × (i < l .nodes) ⌝ }
-    ensures { λ r. ⌜ ((name : Bytes) → tag ≡ tagOf name → r ≡ (is name "ul" && (ltb depth 4 || clusterAt (now (s .entry)) l i fifthOfAny))) ⌝ }
+    ensures { λ r. ⌜ r ≡ (isUl tag && (ltb depth 4 || clusterAt (now (s .entry)) l i fifthOfAny)) ⌝ }
 {
     if tag != 3 {
         return false;
@@ -60,7 +58,7 @@ fn deep_cluster(s: &[u8], l: Layout, i: usize, depth: usize, rule: Rule) -> bool
 
 pub fn article_cluster(s: &[u8], l: Layout, i: usize, tag: u8, depth: usize) -> bool
     requires { ⌜ Accepted (now s) l × (i < l .nodes) ⌝ }
-    ensures { λ r. ⌜ ((name : Bytes) → tag ≡ tagOf name → r ≡ (is name "article" && (ltb 2 depth && clusterAt (now (s .entry)) l i fifthOf500))) ⌝ }
+    ensures { λ r. ⌜ r ≡ (isArticle tag && (ltb 2 depth && clusterAt (now (s .entry)) l i fifthOf500)) ⌝ }
 {
     if tag != 16 {
         return false;
@@ -71,7 +69,7 @@ pub fn article_cluster(s: &[u8], l: Layout, i: usize, tag: u8, depth: usize) -> 
 // The answer for an element without class and id.
 pub fn unnamed(s: &[u8], l: Layout, i: usize, tag: u8, depth: usize) -> bool
     requires { ⌜ Accepted (now s) l × (i < l .nodes) ⌝ }
-    ensures { λ r. ⌜ ((name : Bytes) → tag ≡ tagOf name → r ≡ (not (is name "div") || (leb depth 5 || not (clusterAt (now (s .entry)) l i threeFifthsOf800)))) ⌝ }
+    ensures { λ r. ⌜ r ≡ (not (isDiv tag) || (leb depth 5 || not (clusterAt (now (s .entry)) l i threeFifthsOf800))) ⌝ }
 {
     if tag != 23 {
         return true;
@@ -84,7 +82,7 @@ pub fn unnamed(s: &[u8], l: Layout, i: usize, tag: u8, depth: usize) -> bool
 
 pub fn div_cluster(s: &[u8], l: Layout, i: usize, tag: u8, depth: usize) -> bool
     requires { ⌜ Accepted (now s) l × (i < l .nodes) ⌝ }
-    ensures { λ r. ⌜ ((name : Bytes) → tag ≡ tagOf name → r ≡ (ltb 2 depth && (is name "div" && clusterAt (now (s .entry)) l i threeFifthsOf1500))) ⌝ }
+    ensures { λ r. ⌜ r ≡ (ltb 2 depth && (isDiv tag && clusterAt (now (s .entry)) l i threeFifthsOf1500)) ⌝ }
 {
     if tag != 23 {
         return false;

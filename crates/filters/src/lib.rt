@@ -6,4 +6,5 @@ pub mod footer;
 pub mod icon;
 pub mod main_content;
 pub mod names;
+pub mod theorems;
 pub mod values;

@@ -46,7 +46,7 @@ ghost use Rattle.filters.specs.Classes.{Joinable, Tables};
 ghost use Rattle.filters.specs.Filters.{byAttributes, byBlock, byClassAndId, byName, isMainContent, logoOrAd};
 ghost use Rattle.filters.specs.Footer.{Above};
 ghost use Rattle.filters.specs.Gathered.{Gathered, Readable};
-ghost use Rattle.filters.specs.Sheet.{clusterAt, tagNumber};
+ghost use Rattle.filters.specs.Sheet.{clusterAt, IsTag, tagNumber};
 
 fn logo_or_ad(
     steps: &[u16; 2059],
@@ -91,7 +91,7 @@ fn by_block(
     class: &[u8],
     id: &[u8],
 ) -> bool
-    requires { ⌜ Tables (now steps) (now masks) × Accepted (now s) l × (i < l .nodes) × Readable l (now starts) (now lengths) × Joinable (now class) (now id) × Candidates both (joined (now class) (now id)) ⌝ }
+    requires { ⌜ Tables (now steps) (now masks) × Accepted (now s) l × (i < l .nodes) × Readable l (now starts) (now lengths) × IsTag tag × Joinable (now class) (now id) × Candidates both (joined (now class) (now id)) ⌝ }
     ensures { λ r. ⌜ ((name : Bytes) (attributes : List Attribute) → tag ≡ tagOf name → Gathered (now (s .entry)) l attributes (now (starts .entry)) (now (lengths .entry)) → r ≡ byBlock o (clusterAt (now (s .entry)) l i) depth name attributes (now (class .entry)) (now (id .entry))) ⌝ }
 {
     if rel_main(s, l, starts, lengths) {

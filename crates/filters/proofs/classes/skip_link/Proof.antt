@@ -4,8 +4,6 @@ use native.Mathlib.Omega.{arith}
 use borrow.Author.Needs.{needs}
 use Rattle.patterns.specs.Match.{matchesOf}
 use Rattle.patterns.specs.Patterns.{patterns}
-use Rattle.filters.specs.Filters.{skipLink}
-use Rattle.filters.proofs.NameLaws.{a-div-or-li}
 use Rattle.common.proofs.TestLaws.{and-yes, and-no}
 use Rattle.filters.proofs.classes.skip_link.Statement.{statement}
 use Rattle.filters.proofs.classes.skip_link.Tie as tie
@@ -17,12 +15,11 @@ matches-among-requires : tie.Need-matches-among-requires
 matches-among-requires c κs = (omega arith, c .before .before .before .before .pre .1, c .before .before .before .before .pre .0 .steps-are, c .before .before .before .before .pre .0 .masks-are, c .before .before .before .before .pre .2)
 
 returns : tie.Need-returns
-unfolding skipLink matchesOf patterns
-returns c = λ name tag-is. and-yes _ (sym (a-div-or-li name tag-is) ∙ sym (c .before .before .is-a-div-or-li .ensures) ∙ c .before .if1 .taken) (c .matches-among .ensures)
+unfolding matchesOf patterns
+returns c = and-yes _ (sym (c .before .before .is-a-div-or-li .ensures) ∙ c .before .if1 .taken) (c .matches-among .ensures)
 
 returns-2 : tie.Need-returns-2
-unfolding skipLink
-returns-2 c = λ name tag-is. and-no _ (sym (a-div-or-li name tag-is) ∙ sym (c .before .is-a-div-or-li .ensures) ∙ c .if1 .left)
+returns-2 c = and-no _ (sym (c .before .is-a-div-or-li .ensures) ∙ c .if1 .left)
 
 pub skip-link-spec : {M : Type 1} → statement M
 skip-link-spec =

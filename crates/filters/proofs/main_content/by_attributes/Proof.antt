@@ -3,6 +3,7 @@ use mathlib.Core.Path.{refl, sym, _∙_}
 use native.Mathlib.Omega.{arith}
 use denote.Ref.{now}
 use Rattle.filters.specs.Filters.{byAttributes}
+use Rattle.filters.proofs.NameLaws.{not-div-named}
 use Rattle.filters.proofs.StageLaws.{by-values}
 use Rattle.common.proofs.TestLaws.{cond-yes, cond-no}
 use borrow.Author.Needs.{needs}
@@ -44,7 +45,7 @@ unnamed-requires : tie.Need-unnamed-requires
 unnamed-requires c κs = (c .before .before .before .before .before .before .before .before .before .before .before .before .before .pre .1, c .before .before .before .before .before .before .before .before .before .before .before .before .before .pre .2)
 
 returns-3 : tie.Need-returns-3
-returns-3 c = λ attributes g. by-values _ _ _ _ g (c .before .before .before .before .before .before .before .before .before .held .ensures .0) (c .before .before .before .before .before .before .before .before .held2 .ensures .0) (c .before .before .before .before .before .before .before .held3 .ensures .0) (cond-no _ (sym (c .before .before .before .before .before .before .before .before .before .before .before .hidden-by-attribute .ensures attributes g) ∙ c .before .before .before .before .before .before .before .before .before .before .if1 .left) (cond-no _ (sym (c .before .before .before .before .not-displayed .ensures) ∙ c .before .before .before .if2 .left) (cond-yes _ (sym (c .before .before .are-empty .ensures) ∙ c .before .if3 .taken) (c .unnamed .ensures (now (c .before .before .before .before .before .before .before .before .before .before .before .before .before .before .args .name)) (c .before .before .before .before .before .before .before .before .before .before .before .before .before .before .pre .4)))))
+returns-3 c = λ attributes g. by-values _ _ _ _ g (c .before .before .before .before .before .before .before .before .before .held .ensures .0) (c .before .before .before .before .before .before .before .before .held2 .ensures .0) (c .before .before .before .before .before .before .before .held3 .ensures .0) (cond-no _ (sym (c .before .before .before .before .before .before .before .before .before .before .before .hidden-by-attribute .ensures attributes g) ∙ c .before .before .before .before .before .before .before .before .before .before .if1 .left) (cond-no _ (sym (c .before .before .before .before .not-displayed .ensures) ∙ c .before .before .before .if2 .left) (cond-yes _ (sym (c .before .before .are-empty .ensures) ∙ c .before .if3 .taken) (not-div-named (now (c .before .before .before .before .before .before .before .before .before .before .before .before .before .before .args .name)) (c .before .before .before .before .before .before .before .before .before .before .before .before .before .before .pre .4) _ (c .unnamed .ensures)))))
 
 by-class-and-id-requires : tie.Need-by-class-and-id-requires
 by-class-and-id-requires c κs = (c .before .before .before .before .before .before .before .before .before .before .before .before .before .pre .0, c .before .before .before .before .before .before .before .before .before .before .before .before .before .pre .1, c .before .before .before .before .before .before .before .before .before .before .before .before .before .pre .2, c .before .before .before .before .before .before .before .before .before .before .before .before .before .pre .3, c .before .before .before .before .before .before .before .before .before .before .before .before .before .pre .4, omega (arith, c .before .before .before .before .before .before .before .before .held .ensures .1, c .before .before .before .before .before .before .before .held2 .ensures .1), c .before .before .before .before .candidates .ensures)
