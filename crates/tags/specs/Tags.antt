@@ -119,5 +119,6 @@ pub record TagTests (name : Bytes) : Type 0 where
   -- the names that are written
   pub written : (isHeadingOrP (tagOf name) || isList (tagOf name)) ≡ true → nameOf (tagOf name) ≡ name
 
+-- of every name
 abbrev pub TagsTellNames : Type 0
 TagsTellNames = (name : Bytes) → TagTests name
