@@ -11,6 +11,7 @@ use Rattle.common.specs.Bytes.{Bytes}
 use Rattle.common.proofs.Choice.{by-cond, by-test}
 use Rattle.common.proofs.Parts.{part-from}
 use Rattle.text.specs.Text.{keeping, trimStartBy, rstripBy, trimBy}
+use Rattle.text.specs.Theorems.{before, RstripAppends}
 
 module _ (blank : ℕ → Bool) where
   -- ---- the front
@@ -29,22 +30,17 @@ module _ (blank : ℕ → Bool) where
 
   -- ---- the end
 
-  -- what is left of s before a text that has t left
-  abbrev pub before : Bytes → Bytes → Bytes
-  before s [] = rstripBy blank s
-  before s (c ∷ t) = s ++ c ∷ t
-
-  before-cons : (c : ℕ) (s t : Bytes) → before (c ∷ s) t ≡ keeping (blank c) c (before s t)
+  before-cons : (c : ℕ) (s t : Bytes) → before blank (c ∷ s) t ≡ keeping (blank c) c (before blank s t)
   unfolding rstripBy
   before-cons c s [] = refl
   before-cons c [] (d ∷ t) = refl
   before-cons c (e ∷ s) (d ∷ t) = refl
 
-  pub rstrip-append : (s t : Bytes) → rstripBy blank (s ++ t) ≡ before s (rstripBy blank t)
+  pub rstrip-append : RstripAppends blank
   unfolding rstripBy
   rstrip-append [] t = go (rstripBy blank t)
     where
-      go : (r : Bytes) → r ≡ before [] r
+      go : (r : Bytes) → r ≡ before blank [] r
       go [] = refl
       go (c ∷ r) = refl
   rstrip-append (c ∷ s) t = ap (keeping (blank c) c) (rstrip-append s t) ∙ sym (before-cons c s (rstripBy blank t))

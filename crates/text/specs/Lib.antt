@@ -1,2 +1,3 @@
 pub mod Collapsed
 pub mod Text
+pub mod Theorems

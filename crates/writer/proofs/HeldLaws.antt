@@ -11,7 +11,8 @@ use borrow.Author.Tests.{ne-eqb}
 use Rattle.common.specs.Bytes.{Bytes}
 use Rattle.common.proofs.Choice.{by-cond}
 use Rattle.text.specs.Text.{isSpace, keeping, rstrip, rstripBy}
-use Rattle.text.proofs.TrimLaws.{before, rstrip-append, rstrip-prefix, rstrip-length, rstrip-idempotent}
+use Rattle.text.specs.Theorems.{before}
+use Rattle.text.proofs.TrimLaws.{rstrip-append, rstrip-prefix, rstrip-length, rstrip-idempotent}
 use Rattle.writer.specs.Out.{pushAll, strip}
 use Rattle.writer.specs.Writing.{Held, Ready, Does, grown, trimmed, stored}
 use Rattle.writer.specs.declared.Writer.{Writer}
