@@ -11,7 +11,9 @@ use borrow.Author.Tests.{leb-true, leb-false, le-leb, lt-leb}
 use Rattle.common.specs.Bytes.{Bytes}
 use Rattle.common.proofs.Choice.{by-test}
 use Rattle.utf8.specs.Abnf.{Range, UTF8-char, Sequence, OneOf, UTF8-octets, none, more}
-use Rattle.utf8.specs.Encoding.{Scalar, tail, encode, encodeAll, Scalars, Encoded, GrammarIsEncoding}
+use Rattle.utf8.specs.Encoding.{Scalar, tail, encode, encodeAll, Scalars, Encoded, GrammarIsEncoding, UTF8}
+use Rattle.utf8.specs.Valid.{valid}
+use Rattle.utf8.proofs.Grammar.{valid-is-grammar}
 
 -- a scalar value whose encoding these octets are
 record Decoded (s : Bytes) : Type 0 where
@@ -192,3 +194,6 @@ encoded (c ∷ cs) h = more (encode c) (encodeAll cs) (accepted c (h .0)) (encod
 
 pub grammar-is-encoding : GrammarIsEncoding
 grammar-is-encoding = record { decodes = decodes; accepts = λ s e. subst UTF8-octets (sym (e .bytes)) (encoded (e .scalars) (e .each)) }
+
+pub valid-utf8 : (s : Bytes) → valid s ≡ true → UTF8 s
+valid-utf8 s v = let g = valid-is-grammar .sound s v in record { grammar = g; encoded = grammar-is-encoding .decodes s g }

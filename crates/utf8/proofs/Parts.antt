@@ -1,6 +1,6 @@
 -- A part of UTF-8 is UTF-8 where it begins and ends between two characters.
 use mathlib.Core.Path.{_≡_, refl, sym, _∙_}
-use mathlib.Core.Bool.{true, false, _&&_}
+use mathlib.Core.Bool.{true, false}
 use mathlib.Core.List.{List, [], _∷_}
 use Prim.Native.Nat.{ℕ, zero, suc, _+_, _≤_}
 use native.Mathlib.Nat.{add-zero}
@@ -107,6 +107,3 @@ module _ (s : Bytes) (at len : ℕ) where
   pub part-whole : valid s ≡ true → between s at ≡ true → valid (take len (drop at s)) ≡ between s (at + len)
   unfolding valid
   part-whole v b = expect-take [] (drop at s) len tt (expect-drop [] s at tt v b) ∙ between-drop len
-
-  pub valid-part : valid s ≡ true → (len ≡ 0 → ⊥) → valid (take len (drop at s)) ≡ (between s at && between s (at + len))
-  valid-part v some = by-test (between s at) (λ b. rw b (part-whole v b)) (λ b. rw b (part-cut some b))

@@ -47,3 +47,8 @@ pub record Encoded (s : Bytes) : Type 0 where
 pub record GrammarIsEncoding : Type 0 where
   pub decodes : (s : Bytes) → UTF8-octets s → Encoded s
   pub accepts : (s : Bytes) → Encoded s → UTF8-octets s
+
+-- UTF-8 by both sections
+pub record UTF8 (s : Bytes) : Type 0 where
+  pub grammar : UTF8-octets s
+  pub encoded : Encoded s
