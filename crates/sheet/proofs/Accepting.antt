@@ -1,9 +1,10 @@
 -- A sheet is accepted exactly where its rows are right one after the other, and so are its counts, its root and its attribute lines.
-use mathlib.Core.Path.{_≡_, refl, sym, ap, _∙_}
+use mathlib.Core.Path.{_≡_, refl, sym, ap, _∙_, subst}
 use mathlib.Core.Bool.{Bool, true, false, _&&_, cond}
 use mathlib.Core.Logic.{_⊎_}
 use mathlib.Core.Option.{Option, none, some}
-use Prim.Native.Nat.{ℕ, _+_, _-_, _≤_, _<_}
+use Prim.Native.Nat.{ℕ, zero, suc, _+_, _-_, _≤_, _<_}
+use native.Mathlib.Numerals.{add-one}
 use native.Mathlib.Omega.{arith}
 use lib.Dec.{leb, eqb}
 use borrow.Author.Count.{below-more}
@@ -16,6 +17,7 @@ use Rattle.sheet.specs.Layout.{headerLength, nodeLength, nodeStart, rowA
 use Rattle.sheet.specs.Lines.{lineRight, rowFrom, nodeLineOf}
 use Rattle.sheet.specs.Notes.{Sized, foundOf, isNothing, isNone, treeRight, rowRight, rightLine, rowIn, attributesRead, attributesRight, restRight}
 use Rattle.sheet.specs.Verdict.{inside, textRight, nodes, attributes, nodeFormat, attributeFormat, nodeKind, nodeTree, nodeRange, attributeRange, nodeText, attributeText, countsFrom, judged, isSheet}
+use Rattle.sheet.specs.Theorems.{rowsRight, AcceptedRowByRow}
 use Rattle.sheet.specs.declared.line.Layout.{Layout}
 use Rattle.sheet.specs.declared.line.NodeLine.{NodeLine}
 use Rattle.sheet.specs.declared.line.NodeLine
@@ -259,3 +261,40 @@ module _ (s : Bytes) (l : Layout) where
             absurd-test
             (and-both (eq-eqb counts (l .attributes) (c ∙ eqb-true _ (l .attributes) (g .counts))) (and-both (g .root) (and-both (ap isNone (g .attribute-formats)) (and-both (ap isNone (g .attribute-ranges)) (ap isNone (g .attribute-texts))))))
             t
+
+-- ---- all rows
+
+module _ (s : Bytes) (l : Layout) where
+  rows-line : (n i : ℕ) (before r : Row) → nodeLineOf (l .width) s (nodeStart l i) ≡ NodeLine.the-variants.Numbers r
+      → rowsRight s l i before (suc n) ≡ (rowRight s l i before r && rowsRight s l (suc i) r n)
+  unfolding rowsRight
+  rows-line n i before r e = rw (e, rowsRight)
+
+  rows-no-line : (n i : ℕ) (before : Row) → nodeLineOf (l .width) s (nodeStart l i) ≡ NodeLine.the-variants.Bad → rowsRight s l i before (suc n) ≡ false
+  unfolding rowsRight
+  rows-no-line n i before e = rw (e, rowsRight)
+
+  abbrev Rest : Bool
+  Rest = restRight s l (countsFrom s l 0 (l .nodes))
+
+  rows-step : (n i : ℕ) (before : Row) → Rows s l before (nodeStart l i) i → i < l .nodes
+      → ((r : Row) → Rows s l r (nodeStart l (suc i)) (suc i) → isSheet (judged s l) ≡ (rowsRight s l (suc i) r n && Rest))
+      → isSheet (judged s l) ≡ (rowsRight s l i before (suc n) && Rest)
+  rows-step n i before p h next = by-line (nodeLineOf (l .width) s (nodeStart l i)) refl
+    where
+      by-line : (x : NodeLine) → nodeLineOf (l .width) s (nodeStart l i) ≡ x → isSheet (judged s l) ≡ (rowsRight s l i before (suc n) && Rest)
+      by-line (NodeLine.the-variants.Numbers r) e =
+          by-test (rowRight s l i before r)
+          (λ w. rw (rows-line n i before r e, w) (next r (subst (λ (k : ℕ). Rows s l r (nodeStart l (suc i)) k) (add-one i) (rows-more s l p h e w {then = nodeStart l (suc i)} (omega arith)))))
+          (λ w. rw (rows-line n i before r e, w) (sym (rows-wrong s l p h e w)))
+      by-line NodeLine.the-variants.Bad e = rw (rows-no-line n i before e) (sym (rows-bad s l p h e))
+
+  rows-all : (n i : ℕ) (before : Row) → Rows s l before (nodeStart l i) i → i + n ≡ l .nodes → isSheet (judged s l) ≡ (rowsRight s l i before n && Rest)
+  unfolding rowsRight
+  rows-all zero i before p e = sym (rows-end s l p (omega arith) refl)
+  rows-all (suc n) i before p e = rows-step n i before p (omega arith) (λ r q. rows-all n (suc i) r q (omega arith))
+
+pub row-by-row : AcceptedRowByRow
+row-by-row s l before =
+    let start : headerLength (l .width) ≡ nodeStart l 0 = omega arith in
+    rows-all s l (l .nodes) 0 before (subst (λ (at : ℕ). Rows s l before at 0) start (rows-start s l before)) (omega arith)

@@ -5,5 +5,6 @@ pub mod Layout
 pub mod Lines
 pub mod Notes
 pub mod Reading
+pub mod Theorems
 pub mod Verdict
 pub mod Writing

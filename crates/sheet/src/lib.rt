@@ -7,3 +7,11 @@ pub mod rows;
 pub mod tests;
 pub mod verdict;
 pub mod write;
+
+ghost use Rattle.sheet.specs.Columns.{ReadsBack};
+ghost use Rattle.sheet.specs.Theorems.{AcceptedIsSheet, AcceptedRowByRow};
+
+// What holds of every number in columns, and of every sheet.
+pub fn theorems()
+    ensures { λ r. ⌜ ReadsBack × AcceptedIsSheet × AcceptedRowByRow ⌝ }
+{}
