@@ -11,6 +11,7 @@ pub mod Places
 pub mod QuestionsLaws
 pub mod Scans
 pub mod SheetColumn
+pub mod SheetLaws
 pub mod TextLaws
 pub mod TextLengths
 pub mod TreeLaws

@@ -9,11 +9,9 @@ use Rattle.sheet.specs.Layout.{depths}
 use Rattle.sheet.specs.declared.line.Layout.{Layout}
 use Rattle.sheet.proofs.LayoutLaws.{depths-at, depths-from-length}
 use Rattle.tree.specs.Rows.{WellFormed}
-use Rattle.tree.specs.Tree.{TreeOfColumn}
-use Rattle.tree.proofs.TreeLaws.{tree-of-column}
 
 module _ {s : Bytes} {l : Layout} (accepted : Accepted s l) where
-  rows : length (depths s l) ≡ l .nodes
+  pub rows : length (depths s l) ≡ l .nodes
   rows = depths-from-length s l 0 (l .nodes)
 
   pub well-formed : WellFormed (depths s l)
@@ -26,6 +24,3 @@ module _ {s : Bytes} {l : Layout} (accepted : Accepted s l) where
             let k : suc i < l .nodes = omega (arith, rows) in
             omega (arith, depths-at s l (suc i) k, depths-at s l i (omega arith), accepted .later i k .no-jump);
       }
-
-  pub tree-of-sheet : TreeOfColumn (depths s l)
-  tree-of-sheet = tree-of-column (depths s l) well-formed

@@ -44,6 +44,7 @@ row-of depths w j h =
       rest = s .rest;
       place = s .place;
       only = λ q cs rs v. let o = place-is depths q j cs rs v in (o .parent-is ∙ sym (p .parent-is), o .children-are ∙ sym (p .children-are), o .rest-is ∙ sym (p .rest-is));
+      children-are = p .children-are;
       parent-is = p .parent-is;
       first-child-is = ap first (p .children-are) ∙ scan-first (suc d) (suc j) l;
       next-sibling-is = ap first (p .rest-is) ∙ scan-first d (suc j) l;

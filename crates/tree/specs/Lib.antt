@@ -6,4 +6,5 @@ pub mod Questions
 pub mod Rows
 pub mod TextContent
 pub mod TextLength
+pub mod Theorems
 pub mod Tree

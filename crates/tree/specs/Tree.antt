@@ -8,7 +8,7 @@ use lib.ListN.{length, getD, drop}
 use Rattle.sheet.specs.Column.{parentOf}
 use Rattle.tree.specs.Forest.{Forest, empty, node, preorder, preorderAt, first, Place, Descendant}
 use Rattle.tree.specs.Node.{element, Node}
-use Rattle.tree.specs.Rows.{numbered, forestOf, rowsFrom, firstChildOf, nextSiblingOf, pastFrom, pastOf}
+use Rattle.tree.specs.Rows.{numbered, forestOf, childrenOf, rowsFrom, firstChildOf, nextSiblingOf, pastFrom, pastOf}
 use Rattle.tree.specs.TextContent.{textContent, textOfRows}
 
 -- "Rows are in document order": tree order, with depths, is the order of the rows, and of no other forest
@@ -23,6 +23,8 @@ pub record RowOf (depths : List ℕ) (forest : Forest ℕ) (j : ℕ) : Type 0 wh
   pub rest : Forest ℕ
   pub place : Place none forest parent j children rest
   pub only : (q : Option ℕ) (cs rs : Forest ℕ) → Place none forest q j cs rs → (q ≡ parent) × (cs ≡ children) × (rs ≡ rest)
+  -- what stands below it is `childrenOf`
+  pub children-are : children ≡ childrenOf depths j
   -- "A row's parent is the last earlier row one depth less."
   pub parent-is : parent ≡ parentOf depths j
   pub first-child-is : first children ≡ firstChildOf depths j
