@@ -1,24 +1,21 @@
 -- The page of an accepted sheet: its column is that of a tree, and what its rows show is UTF-8.
-use mathlib.Core.Path.{_≡_, refl, sym, ap, _∙_, subst}
-use mathlib.Core.List.{[], _∷_}
+use mathlib.Core.Path.{_≡_, refl, sym, ap, _∙_}
 use mathlib.Core.Option.{some, Option·some-injective, Option·none-ne-some}
-use Prim.Native.Nat.{ℕ, zero, suc, _+_, _≤_, _<_}
+use Prim.Native.Nat.{ℕ, zero, suc, _+_, _<_}
 use native.Mathlib.Omega.{arith}
 use lib.Dec.{lit≤}
 use lib.ListN.{getElem?}
 use Rattle.common.specs.Bytes.{Bytes}
-use Rattle.sheet.specs.Accepted.{Accepted}
 use Rattle.sheet.specs.Layout.{rowAt, depths}
 use Rattle.sheet.specs.Verdict.{countsFrom}
 use Rattle.sheet.specs.declared.line.Layout.{Layout}
 use Rattle.sheet.proofs.Acceptance.{accepts}
-use Rattle.utf8.specs.Encoding.{UTF8}
 use Rattle.utf8.proofs.Encodings.{valid-utf8}
 use Rattle.tree.specs.Attributes.{nameAt, valueAt, attributesFrom}
 use Rattle.tree.specs.Node.{Attribute}
-use Rattle.tree.specs.Page.{nodeAt, pageOf}
+use Rattle.tree.specs.Page.{nodeAt}
 use Rattle.tree.specs.TextContent.{textContent}
-use Rattle.tree.specs.Theorems.{RangeIsValue, SheetTree, SheetIsTree}
+use Rattle.tree.specs.Theorems.{RangeIsValue, SheetIsTree}
 use Rattle.tree.proofs.AttributeLines.{find-is, counts-fit}
 use Rattle.tree.proofs.SheetColumn.{rows, well-formed}
 use Rattle.tree.proofs.TreeLaws.{tree-of-column}

@@ -16,10 +16,12 @@ use Rattle.tree.specs.Rows.{WellFormed, childrenOf, pastOf}
 use Rattle.tree.specs.TextContent.{textContent, textOfRows}
 use Rattle.tree.specs.Tree.{TreeOfColumn, SiblingPast}
 
--- the tree of a column of depths, row by row
+-- the column of depths of rows in document order is that of one tree, in which parent, first child, next sibling, children, descendants and text
+-- content are those of the column
 abbrev pub ColumnIsTree : Type 0
 ColumnIsTree = (depths : List ℕ) → WellFormed depths → TreeOfColumn depths
 
+-- the next sibling is the first row past a row and all below it, if that stands at its depth
 abbrev pub SiblingIsPast : Type 0
 SiblingIsPast = (depths : List ℕ) (j : ℕ) → SiblingPast depths j
 
@@ -27,7 +29,7 @@ SiblingIsPast = (depths : List ℕ) (j : ℕ) → SiblingPast depths j
 abbrev pub FirstCounts : Type 0
 FirstCounts = (attributes : List Attribute) (name : Bytes) → AttributeByName attributes name
 
--- the range that is found for an attribute of row i holds its value
+-- "one attribute's range": what is found for an attribute of row i holds its value
 abbrev pub RangeIsValue : Type 0
 RangeIsValue = (s : Bytes) (l : Layout) (i : ℕ) (name : Bytes) → valueIn s l (rangeOf s l i name) ≡ attribute (nodeAt s l i .attributes) name
 
