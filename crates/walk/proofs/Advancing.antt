@@ -112,12 +112,7 @@ pub left-at-root : (depths : List ℕ) (left : List Bool) (stack : List ℕ) (i 
 unfolding openRows remaining
 left-at-root depths left stack i e = left-of depths (flagged left) stack e ∙ sym (append-nil (turns (flagged left) 0 (treeAt depths i)))
 
--- ---- a loop over the walk: the visits so far, and the passes that are left
-
-pub record Along (depths : List ℕ) (left : List Bool) (root room : ℕ) (stack : List ℕ) (w : Walk) (passed : ℕ) : Type 0 where
-  pub count : passed + length (turnsLeft depths (flagged left) w stack) ≡ length (turns (flagged left) 0 (treeAt depths root))
-  pub fits : Fits depths (length stack) w
-  pub same : length stack ≡ room
+-- ---- the two answers taken apart
 
 module _ (depths : List ℕ) (left : List Bool) where
   pub turn-taken : (ts : List Turn) {r : Next} {t : Turn} {w : Walk} (after : List ℕ) → r ≡ next.the-variants.Turn t w → Advances depths left ts r after
@@ -126,16 +121,3 @@ module _ (depths : List ℕ) (left : List Bool) where
 
   pub no-turn : (ts : List Turn) {r : Next} (after : List ℕ) → r ≡ next.the-variants.Done → Advances depths left ts r after → ts ≡ []
   no-turn ts after e a = subst (λ (x : Next). Advances depths left ts x after) e a
-
-module _ (depths : List ℕ) (left : List Bool) (root : ℕ) where
-  pub along-start : (stack : List ℕ) → root < length depths → Along depths left root (length stack) stack (Root root) 0
-  along-start stack h = record { count = omega arith; fits = h; same = refl }
-
-  pub along-more : {room : ℕ} {stack : List ℕ} {w v : Walk} {passed : ℕ} {after : List ℕ} {t : Turn} → Along depths left root room stack w passed
-      → (turnsLeft depths (flagged left) w stack ≡ t ∷ turnsLeft depths (flagged left) v after) × Fits depths (length after) v → length after ≡ length stack
-      → Along depths left root room after v (passed + 1)
-  along-more a p s = record { count = omega (arith, a .count, ap length (p .0)); fits = p .1; same = s ∙ a .same }
-
-  pub along-done : {room : ℕ} {stack : List ℕ} {w : Walk} {passed : ℕ} → Along depths left root room stack w passed → turnsLeft depths (flagged left) w stack ≡ []
-      → passed ≡ length (turns (flagged left) 0 (treeAt depths root))
-  along-done a e = omega (arith, a .count, ap length e)

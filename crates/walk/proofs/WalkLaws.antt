@@ -15,7 +15,7 @@ use Rattle.tree.proofs.PastLaws.{past-of-low, past-of-high}
 use Rattle.html2text.specs.Collect.{Event}
 use Rattle.html2text.specs.Serialize.{one}
 use Rattle.html2text.specs.Walk.{hasTrees, leftOut, eventAt, events, visits}
-use Rattle.walk.specs.Turns.{treeAt, turns, eventsOf, TurnsOfWalk, Agree, VisitsOf}
+use Rattle.walk.specs.Turns.{treeAt, turns, eventsOf, TurnsOfWalk, Agree}
 use Rattle.walk.specs.declared.cursor.Turn.{Turn}
 use Rattle.walk.specs.declared.cursor.Turn.the-variants.{Begin, End, LeftOut}
 
@@ -149,9 +149,3 @@ agree-turns left other d (node i children rest) a =
     rw (e, sym (a .0) ∙ e, turns)
     (ap₂ (λ (ts us : List Turn). Begin i d (hasTrees children) ∷ ((ts ++ end) ++ us)) (agree-turns left other (suc d) children (a .1 e))
     (agree-turns left other d rest (a .2))))
-
--- the number of passes by flags that are right at the rows that are reached
-pub visits-of : (depths : List ℕ) (left : ℕ → Bool) (root : ℕ) {r : ℕ} → r ≡ length (turns left 0 (treeAt depths root)) → VisitsOf depths left root r
-visits-of depths left root e nodeOf hidden a =
-    let f = treeAt depths root in
-    e ∙ ap length (sym (agree-turns (leftOut nodeOf hidden) left 0 f a)) ∙ sym (visits-are nodeOf hidden 0 f)

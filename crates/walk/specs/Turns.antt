@@ -91,8 +91,3 @@ abbrev pub Advances : List ℕ → List Bool → List Turn → Next → List ℕ
 Advances depths left ts (next.the-variants.Turn t w) stack =
     (ts ≡ t ∷ turnsLeft depths (flagged left) w stack) × Fits depths (length stack) w
 Advances depths left ts next.the-variants.Done stack = ts ≡ []
-
--- r is the number of visits of every page with this column whose rows are left out as `left` says, as far as they are reached
-abbrev pub VisitsOf : List ℕ → (ℕ → Bool) → ℕ → ℕ → Type 0
-VisitsOf depths left root r =
-    (nodeOf : ℕ → Node) (hidden : ℕ → Bool) → Agree (leftOut nodeOf hidden) left (treeAt depths root) → r ≡ visits nodeOf hidden (treeAt depths root)

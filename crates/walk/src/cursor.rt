@@ -5,7 +5,7 @@ ghost use mathlib.Core.List.{_++_};
 ghost use Prim.Native.Nat.{suc, _+_, _≤_, _<_};
 ghost use lib.ListN.{drop, getD, length};
 ghost use Rattle.tree.specs.Rows.{pastFrom};
-ghost use Rattle.walk.specs.Turns.{Advances, ColumnRight, Fits, VisitsOf, flagged, openRows, remaining, standsAt, treeAt, turns, turnsLeft};
+ghost use Rattle.walk.specs.Turns.{Advances, ColumnRight, Fits, flagged, openRows, remaining, standsAt, treeAt, turns, turnsLeft};
 
 // A pass of the walk's loop: a row begins, a row that has children ends, or a row is left out. Depths count from the root.
 pub enum Turn {
@@ -163,21 +163,5 @@ pub fn advance(depths: &[u16], left: &[bool], stack: &mut [usize], w: Walk) -> N
             reach(depths, left, stack, base, 0, row)
         }
         Walk::Below { base, next, above } => go_on(depths, left, stack, base, next, above),
-    }
-}
-
-// The visits of a walk from the root row.
-pub fn count_visits(depths: &[u16], left: &[bool], stack: &mut [usize], root: usize) -> usize
-    requires { ⌜ ColumnRight (now depths) (length (now stack)) × (length (now depths) ≤ length (now left)) × (root < length (now depths)) ⌝ }
-    ensures { λ r. ⌜ VisitsOf (now (depths .entry)) (flagged (now (left .entry))) root r ⌝ }
-{
-    let mut w = Walk::Root(root);
-    let mut visits = 0;
-    loop {
-        let Next::Turn(_, after) = advance(depths, left, stack, w) else {
-            return visits;
-        };
-        w = after;
-        visits += 1;
     }
 }
