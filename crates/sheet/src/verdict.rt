@@ -19,7 +19,7 @@ ghost use Rattle.utf8.specs.Valid.{valid};
 ghost use Rattle.sheet.specs.Layout.{poolStart, rowAt, sizeOf};
 ghost use Rattle.sheet.specs.Lines.{numberAt};
 ghost use Rattle.sheet.specs.Notes.{Formatted, Sized, Whole, attributesNotes, attributesRight, isNothing, nodesNotes, restRight};
-ghost use Rattle.sheet.specs.Verdict.{countsRight, headerOf, judged, nodeFormat, nodes, verdictOf};
+ghost use Rattle.sheet.specs.Verdict.{countsRight, headerOf, judged, nodeFormat, nodes, numbers, verdictOf};
 
 // A row, or none.
 pub enum Found {
@@ -242,7 +242,8 @@ pub fn check_in(s: &[u8], width: usize) -> Verdict
 
 // The verdict on a sheet: its numbers have 8 columns.
 pub fn check(s: &[u8]) -> Verdict
-    ensures { λ x. ⌜ x ≡ verdictOf 8 (now (s .entry)) ⌝ }
+    ensures answer { λ x. ⌜ x ≡ verdictOf 8 (now (s .entry)) ⌝ }
+    ensures said { λ x. ⌜ numbers x ≡ numbers (verdictOf 8 (now (s .entry))) ⌝ }
 {
     check_in(s, 8)
 }

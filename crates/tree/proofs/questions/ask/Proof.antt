@@ -14,10 +14,10 @@ enum-known-v : tie.Need-enum-known-v
 enum-known-v c = search needs
 
 returns : tie.Need-returns
-returns c = asked-refused _ _ (c .before .check .ensures) (c .match .keys2)
+returns c = asked-refused _ _ (c .before .check .ensures .0) (c .match .keys2)
 
 find-row-requires : tie.Need-find-row-requires
-find-row-requires c κs = accepts (lit≤ tt) (sym (c .before .before .before .check .ensures) ∙ c .before .v .given .1) .1
+find-row-requires c κs = accepts (lit≤ tt) (sym (c .before .before .before .check .ensures .0) ∙ c .before .v .given .1) .1
 
 enum-known-r : tie.Need-enum-known-r
 enum-known-r c = search needs
@@ -26,10 +26,10 @@ enum-told : tie.Need-enum-told
 enum-told c = search needs
 
 returns-2 : tie.Need-returns-2
-returns-2 c = asked-no-row _ _ (sym (c .before .before .before .before .v .given .1) ∙ c .before .before .before .before .before .before .check .ensures) (sym (c .enum-told .given .1) ∙ c .before .before .find-row .ensures)
+returns-2 c = asked-no-row _ _ (sym (c .before .before .before .before .v .given .1) ∙ c .before .before .before .before .before .before .check .ensures .0) (sym (c .enum-told .given .1) ∙ c .before .before .find-row .ensures)
 
 returns-3 : tie.Need-returns-3
-returns-3 c = asked-of _ _ (sym (c .before .before .before .before .before .v .given .1) ∙ c .before .before .before .before .before .before .before .check .ensures) (sym (c .before .r .given .1) ∙ c .before .before .before .find-row .ensures)
+returns-3 c = asked-of _ _ (sym (c .before .before .before .before .before .v .given .1) ∙ c .before .before .before .before .before .before .before .check .ensures .0) (sym (c .before .r .given .1) ∙ c .before .before .before .find-row .ensures)
 
 pub ask-spec : {M : Type 1} → statement M
 ask-spec =
