@@ -16,6 +16,7 @@ pub use tree::questions::next_sibling_of;
 pub use tree::questions::parent_of;
 ghost use mathlib.Core.Path.{_≡_};
 ghost use lib.ListN.{length};
+ghost use Rattle.html2text.specs.Extract.{numbers};
 ghost use Rattle.reader.specs.Demands.{Demand1, Demand2, Demand3};
 ghost use Rattle.reader.specs.Extraction.{extractionOf, outAfterOf, workAfterOf};
 ghost use Rattle.reader.specs.Pages.{PagesRight};
@@ -25,6 +26,7 @@ pub fn extract(sheet: &[u8], options: ExtractOptions, out: &mut [u8], work: &mut
     ensures answer { λ r. ⌜ r ≡ extractionOf (now (sheet .entry)) options (length (now (out .entry))) (length (now (work .entry))) ⌝ }
     ensures text { λ r. ⌜ now (out .exit) ≡ outAfterOf (now (sheet .entry)) options (now (out .entry)) (now (work .entry)) ⌝ }
     ensures cleared { λ r. ⌜ now (work .exit) ≡ workAfterOf (now (sheet .entry)) options (now (work .entry)) ⌝ }
+    ensures said { λ r. ⌜ numbers r ≡ numbers (extractionOf (now (sheet .entry)) options (length (now (out .entry))) (length (now (work .entry)))) ⌝ }
 {
     let v = header_in(sheet, 8);
     let Verdict::Sheet(l) = v else {

@@ -34,7 +34,7 @@ same-length-2 : tie.Need-same-length-2
 same-length-2 c = search needs
 
 returns-2 : tie.Need-returns-2
-returns-2 c = let x = c .before .before .before .before .before .extract .ensures in let q = by-line _ _ (now (c .before .before .before .before .before .before .before .before .before .before .before .before .before .before .before .before .args .out)) (now (c .before .before .before .before .before .before .before .before .before .before .before .before .before .before .before .before .args .work)) (sym (c .before .before .before .before .before .before .before .before .before .o .given .1) ∙ c .before .before .before .before .before .before .before .before .before .before .before .read-line .ensures) (c .of-extraction .ensures) (x .0, x .1 .0, x .1 .1) in (q .0, (q .1, q .2))
+returns-2 c = let x = c .before .before .before .before .before .extract .ensures in let q = by-line _ _ (now (c .before .before .before .before .before .before .before .before .before .before .before .before .before .before .before .before .args .out)) (now (c .before .before .before .before .before .before .before .before .before .before .before .before .before .before .before .before .args .work)) (sym (c .before .before .before .before .before .before .before .before .before .o .given .1) ∙ c .before .before .before .before .before .before .before .before .before .before .before .read-line .ensures) (c .of-extraction .ensures) (x .0, x .1 .0, x .1 .1 .0) in (q .0, (q .1, q .2))
 
 pub levzhada-extract-spec : {M : Type 1} → statement M
 levzhada-extract-spec =
