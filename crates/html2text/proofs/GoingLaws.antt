@@ -11,6 +11,11 @@ use Rattle.html2text.specs.Serialize.{State, step}
 pub going-at : (P : State → Type 0) {R : Run} {S : State} → Going P R → R ≡ going S → P S
 going-at P g e = subst (Going P) e g
 
+pub going-more : (P Q : State → Type 0) → ((S : State) → P S → Q S) → (R : Run) → Going P R → Going Q R
+going-more P Q f (going S) g = f S g
+going-more P Q f (tooManyLevels line) g = tt
+going-more P Q f (tooManyRows line) g = tt
+
 -- an entry is taken only where it passes neither limit
 pub going-taken : (P Q : State → Type 0) (f : Formatting) (bullets : Bool) (e : Entry) (R : Run)
     → ((S : State) → passesLevels f (e .node) S ≡ false → passesRows (e .node) S ≡ false → P S → Q (step f bullets (e .node) (e .text) S))

@@ -1,5 +1,6 @@
 pub mod AlikeSheets
 pub mod AlongLaws
+pub mod AnswerBounds
 pub mod BlankRuns
 pub mod BoundLaws
 pub mod CollectLaws

@@ -174,7 +174,7 @@ module _ {o : ExtractOptions} {whole F : Fused} {e : Event} {rest : List Event} 
     unfolding fed opened begun
     bounded-begun =
         let b = rw p at next-bounded in
-        record { preDepth = b .preDepth; below = omega arith; need = omega (arith, a .bounded .need); run = b .run }
+        record { preDepth = b .preDepth; below = omega arith; need = omega (arith, a .bounded .need); run = bounded-closed o (a .bounded) (omega (arith, a .few)) }
 
     pub begun-bounded : {T : State} → closed o (begun o e F) ≡ going T → StateBounded (a .count + 2) T
     begun-bounded c = bounded-two bounded-begun c

@@ -1,9 +1,10 @@
--- The walk of an accepted sheet's page has at most 40,000 events, and each adds at most six times the pool and a few bytes.
+-- The walk of an accepted sheet's page has at most two events a row, each of a row of the sheet, and each adds at most six times the pool and
+-- a few bytes.
 use mathlib.Core.Path.{_≡_, refl}
 use mathlib.Core.Bool.{Bool, true, false, _&&_, _||_, not, cond}
 use mathlib.Core.List.{List, [], _∷_, _++_}
 use mathlib.Core.Option.{some, Option·getD}
-use Prim.Native.Nat.{ℕ, zero, suc, _+_, _*_, _≤_}
+use Prim.Native.Nat.{ℕ, zero, suc, _+_, _*_, _≤_, _<_}
 use native.Mathlib.Omega.{arith}
 use lib.ListN.{length, take, drop, length-append, length-take, length-drop}
 use Rattle.common.specs.Bytes.{Bytes, codes, same, isEmpty}
@@ -27,7 +28,7 @@ use Rattle.tree.specs.Forest.{Forest, empty, node}
 use Rattle.tree.specs.Node.{Node, attribute, attributeOrEmpty}
 use Rattle.tree.specs.Page.{nodeAt, pageOf}
 use Rattle.tree.proofs.NodeLaws.{by-kind}
-use Rattle.html2text.specs.Bounds.{mostAdded, Adds, EventsBounded}
+use Rattle.html2text.specs.Bounds.{Each, AddsAtMost, EventsBounded, addedIn}
 use Rattle.html2text.specs.Collect.{Event, tagNumber, attr, isLink, isBreak, linkText, isUnshownType, fieldValue, addedByElement, added}
 use Rattle.html2text.specs.Serialize.{one}
 use Rattle.html2text.specs.Walk.{hasTrees, leftOut, eventAt, events, visits, treeOf}
@@ -37,9 +38,9 @@ use Rattle.html2text.proofs.WalkLaws.{walk-of-tree}
 
 -- ---- what an event adds, where no value is longer than p
 
-record Short (p : ℕ) (n : Node) : Type 0 where
-  value : length (n .value) ≤ p
-  attributes : (name : Bytes) → length (attr n name) ≤ p
+pub record Short (p : ℕ) (n : Node) : Type 0 where
+  pub value : length (n .value) ≤ p
+  pub attributes : (name : Bytes) → length (attr n name) ≤ p
 
 module _ {p : ℕ} (o : ExtractOptions) (n : Node) (short : Short p n) where
   Fits : Bytes → Type 0
@@ -94,7 +95,7 @@ module _ {s : Bytes} {l : Layout} (sized : Sized s l) where
       go true h = range-short (attributeAt s l j .«value_at») (attributeAt s l j .«value_len»)
       go false h = h
 
-  node-short : (i : ℕ) → Short (l .pool) (nodeAt s l i)
+  pub node-short : (i : ℕ) → Short (l .pool) (nodeAt s l i)
   unfolding nodeAt
   node-short i =
       record {
@@ -102,9 +103,9 @@ module _ {s : Bytes} {l : Layout} (sized : Sized s l) where
         attributes = λ name. attribute-short name (countsFrom s l 0 i) (rowAt s l i .attributes);
       }
 
-  node-adds : (o : ExtractOptions) (i : ℕ) (end : Bool) (current : ℕ) → length (added o (nodeAt s l i) end current) ≤ mostAdded
+  node-adds : (o : ExtractOptions) (i : ℕ) (end : Bool) (current : ℕ) → length (added o (nodeAt s l i) end current) ≤ addedIn l
   unfolding Fits
-  node-adds o i end current = omega (arith, sized .pool, added-fits o (nodeAt s l i) (node-short i) end current)
+  node-adds o i end current = added-fits o (nodeAt s l i) (node-short i) end current
 
 -- ---- the walk
 
@@ -123,10 +124,22 @@ module _ (nodeOf : ℕ → Node) (hidden : ℕ → Bool) where
       row-few (leftOut nodeOf hidden i) (hasTrees children) (eventAt nodeOf hidden i (hasTrees children) d false) (eventAt nodeOf hidden i true d true) (events nodeOf hidden (suc d) children) (events nodeOf hidden d rest)
       (visits nodeOf hidden children) (visits nodeOf hidden rest) (events-few (suc d) children) (events-few d rest)
 
-pub events-bounded : {s : Bytes} {l : Layout} → Accepted s l → (hidden : ℕ → Bool) (o : ExtractOptions) → EventsBounded s l hidden o
-events-bounded {s} {l} accepted hidden o =
-    let p = pageOf s l in
-    record {
-      few = omega (arith, events-few (nodeAt s l) hidden 0 (treeOf p), walk-of-tree p (λ i d. hidden i) hidden o (λ i d e. refl) (page-right accepted) .most, depths-from-length s l 0 (l .nodes), accepted .sized .nodes);
-      each = tree-each p hidden (Adds o) (λ i h children d end. record { short = node-adds (accepted .sized) o i end }) (page-right accepted .root);
-    }
+module _ {s : Bytes} {l : Layout} (accepted : Accepted s l) (hidden : ℕ → Bool) where
+  pub events-in : (P : Event → Type 0) → ((i : ℕ) (children : Bool) (d : ℕ) (end : Bool) → i < l .nodes → P (eventAt (nodeAt s l) hidden i children d end))
+      → Each P (events (nodeAt s l) hidden 0 (treeOf (pageOf s l)))
+  events-in P p =
+      tree-each (pageOf s l) hidden P (λ i h children d end. p i children d end (omega (arith, depths-from-length s l 0 (l .nodes)))) (page-right accepted .root)
+
+  pub visits-most : (o : ExtractOptions) → visits (nodeAt s l) hidden (treeOf (pageOf s l)) ≤ 2 * l .nodes
+  visits-most o = omega (arith, walk-of-tree (pageOf s l) (λ i d. hidden i) hidden o (λ i d e. refl) (page-right accepted) .most, depths-from-length s l 0 (l .nodes))
+
+  pub events-most : (o : ExtractOptions) → length (events (nodeAt s l) hidden 0 (treeOf (pageOf s l))) ≤ 2 * l .nodes
+  events-most o = omega (arith, events-few (nodeAt s l) hidden 0 (treeOf (pageOf s l)), visits-most o)
+
+  pub events-add : (o : ExtractOptions) {most : ℕ} → addedIn l ≤ most → Each (AddsAtMost most o) (events (nodeAt s l) hidden 0 (treeOf (pageOf s l)))
+  events-add o {most} h =
+      events-in (AddsAtMost most o) (λ i children d end k. record { short = λ current. omega (arith, node-adds (accepted .sized) o i end current) })
+
+  pub events-bounded : (o : ExtractOptions) → EventsBounded s l hidden o
+  events-bounded o =
+      record { few = omega (arith, events-most o, accepted .sized .nodes); each = events-add o (omega (arith, accepted .sized .pool)) }

@@ -10,7 +10,9 @@ pub mod Judging
 pub mod LayoutLaws
 pub mod LineLaws
 pub mod NodePass
+pub mod NumberLaws
 pub mod Parents
 pub mod ReadingColumns
 pub mod RowTests
 pub mod WritingColumns
+pub mod WrittenLines

@@ -25,7 +25,7 @@ passes = record {
   pieces = shown-in-pieces;
   fed = fed-in-two;
   levels = λ f bullets n text S. step-levels n bullets text f S;
-  events = λ s l e. events-bounded (accepts (lit≤ tt) e .1);
+  events = λ s l e hidden o. events-bounded (accepts (lit≤ tt) e .1) hidden o;
   run = run-bounded;
 }
 
