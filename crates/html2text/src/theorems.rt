@@ -1,9 +1,8 @@
-// What is proved of the definitions.
+// What is shown of the definitions and the worked examples, as a contract.
 ghost use Rattle.html2text.specs.Encoded.{TextIsUtf8};
 ghost use Rattle.html2text.specs.Examples.{ExamplesAreRight};
 ghost use Rattle.html2text.specs.Promises.{Demand3ForAll, PassesRight, WalkRight};
 
-// Has no work to do: its promise is a theorem.
 pub fn theorems()
     ensures walk { λ r. ⌜ WalkRight ⌝ }
     ensures passes { λ r. ⌜ PassesRight ⌝ }

@@ -16,6 +16,7 @@ use Rattle.html2text.specs.Walk.{Sofar}
 use Rattle.html2text.specs.declared.Extraction.{Extraction}
 use Rattle.html2text.specs.declared.Extraction.the-variants.{Text, Refused, ListLevels, OpenRows, WorkTooShort, OutTooShort}
 use Rattle.html2text.proofs.Demand3Laws as html2text
+use Rattle.html2text.proofs.EncodedLaws.{text-is-utf8}
 use Rattle.html2text.proofs.GivenLaws.{gives-text}
 use Rattle.html2text.proofs.GoingLaws.{going-at}
 use Rattle.html2text.proofs.PageLaws.{page-right}
@@ -28,6 +29,7 @@ use Rattle.sheet.specs.declared.verdict.Verdict.the-variants.{Sheet, Length, Fo
 use Rattle.sheet.proofs.Acceptance.{accepts}
 use Rattle.tree.specs.Page.{Page, pageOf}
 use Rattle.tree.specs.Questions.{onSheet}
+use Rattle.tree.proofs.SheetLaws.{sheet-is-tree}
 use Rattle.reader.specs.Demands.{isOneOf, isNumber, Demand1, Demand2, Demand3, loopExtraction}
 use Rattle.reader.specs.Extraction.{filters, extractionOf, outAfterOf, workAfterOf}
 use Rattle.reader.specs.Rust.{rustHidden, rustLoop, rustState, rustText}
@@ -124,7 +126,11 @@ module _ (s : Bytes) (l : Layout) (o : ExtractOptions) (e : verdictOf 8 s ≡ Sh
   rust-answer out work = rw e (ap (λ (so : Sofar). concluded (workNeedOf page o (so .nodes)) (so .passes) (serialized o (so .nodes)) out work) (sym (walk .same)))
 
 pub demand-2 : Demand2
-demand-2 s l o e = record { text = rust-text s l o e; answer = rust-answer s l o e; ends = walk s l o e .ends }
+demand-2 = record {
+  rust = λ s l o e. record { text = rust-text s l o e; answer = rust-answer s l o e; ends = walk s l o e .ends };
+  standards = sheet-is-tree;
+  encoding = text-is-utf8;
+}
 
 -- ---- 3
 

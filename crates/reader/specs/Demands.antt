@@ -10,6 +10,7 @@ use Rattle.common.specs.Answer.{Answer}
 use Rattle.common.specs.Bytes.{Bytes, padded}
 use Rattle.html2text.specs.Demand3.{Gives}
 use Rattle.html2text.specs.Demand3 as html2text
+use Rattle.html2text.specs.Encoded.{TextIsUtf8}
 use Rattle.html2text.specs.Extract.{concluded, workNeedOf, serialized, numbers}
 use Rattle.html2text.specs.Walk.{loopFrom}
 use Rattle.html2text.specs.declared.Extraction.{Extraction}
@@ -18,6 +19,7 @@ use Rattle.sheet.specs.Verdict.{verdictOf}
 use Rattle.sheet.specs.declared.line.Layout.{Layout}
 use Rattle.sheet.specs.declared.verdict.Verdict.the-variants.{Sheet}
 use Rattle.tree.specs.Page.{Page, pageOf}
+use Rattle.tree.specs.Theorems.{SheetIsTree}
 use Rattle.reader.specs.Extraction.{filters, extractionOf, outAfterOf, workAfterOf}
 use Rattle.reader.specs.Rust.{rustHidden, rustLoop, rustText}
 
@@ -65,8 +67,12 @@ pub record AsTheRust (s : Bytes) (l : Layout) (o : ExtractOptions) : Type 0 wher
       → loopFrom (pageOf s l) (rustHidden (pageOf s l) o) o (2 * length (pageOf s l .depths) + k) (some (l .root)) 0 false (record { nodes = []; passes = 0 })
       ≡ rustLoop (pageOf s l) o
 
-abbrev pub Demand2 : Type 0
-Demand2 = (s : Bytes) (l : Layout) (o : ExtractOptions) → verdictOf 8 s ≡ Sheet l → AsTheRust s l o
+pub record Demand2 : Type 0 where
+  pub rust : (s : Bytes) (l : Layout) (o : ExtractOptions) → verdictOf 8 s ≡ Sheet l → AsTheRust s l o
+  -- "Tree order, text content and UTF-8 are proved against WHATWG DOM and RFC 3629": of the page of every accepted sheet
+  pub standards : SheetIsTree
+  -- and the text that is given is UTF-8
+  pub encoding : TextIsUtf8
 
 -- ---- 3: blanks, and pieces of one and of two extractions
 

@@ -1,13 +1,13 @@
 // The functions on bytes of html2text.rs.
+pub mod theorems;
+
 use common::Written;
-ghost use mathlib.Core.Bool.{Bool};
 ghost use mathlib.Core.Path.{_≡_};
-ghost use Prim.Native.Nat.{ℕ, _+_, _≤_};
+ghost use Prim.Native.Nat.{_+_, _≤_};
 ghost use lib.ListN.{drop, length};
 ghost use Rattle.common.specs.Answer.{capped, numbers, outAfter, writtenIn};
 ghost use Rattle.common.specs.Puts.{Puts};
 ghost use Rattle.text.specs.Text.{collapse, collapseFrom, escape, escaped, isSpace, rstrip, spaceAfter, squeezed, trim, trimStartBy};
-ghost use Rattle.text.specs.Theorems.{Collapses, EscapeParts, Idempotent, NotLonger, RstripAppends, StruckOut};
 
 // How many bytes a collapsed text has, and whether a blank is the last of them.
 pub struct Squeezed {
@@ -230,8 +230,3 @@ pub fn escape(s: &[u8], out: &mut [u8]) -> Written
     common::clear(out, n);
     Written::Text(n)
 }
-
-// What holds of these functions for every text.
-pub fn theorems()
-    ensures { λ r. ⌜ ((blank : ℕ → Bool) → StruckOut blank × Collapses blank × Idempotent blank × NotLonger blank × RstripAppends blank) × EscapeParts ⌝ }
-{}

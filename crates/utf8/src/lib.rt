@@ -1,12 +1,13 @@
 // Whether bytes are UTF-8 (RFC 3629).
+pub mod theorems;
+
 ghost use mathlib.Core.Bool.{true};
 ghost use mathlib.Core.Path.{_≡_};
 ghost use Prim.Native.Nat.{_+_, _<_, _≤_};
 ghost use lib.ListN.{drop, getD, length, take};
 ghost use Rattle.utf8.specs.Abnf.{UTF8-char, UTF8-tail};
-ghost use Rattle.utf8.specs.Encoding.{GrammarIsEncoding};
 ghost use Rattle.utf8.specs.State.{Ascii, Passed, ranges};
-ghost use Rattle.utf8.specs.Valid.{ValidIsGrammar, between, follow, valid, within};
+ghost use Rattle.utf8.specs.Valid.{between, follow, valid, within};
 
 // What has to come before the next character: count octets, the first from low to high, the others tails.
 struct Expected {
@@ -226,8 +227,3 @@ pub fn valid_part(s: &[u8], at: usize, len: usize) -> bool
     }
     is_between(s, at + len)
 }
-
-// What `valid` decides: the grammar of section 4, which is the encodings of section 3.
-pub fn theorems()
-    ensures { λ r. ⌜ ValidIsGrammar × GrammarIsEncoding ⌝ }
-{}

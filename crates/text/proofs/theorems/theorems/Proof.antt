@@ -3,8 +3,8 @@ use Rattle.text.proofs.CollapseLaws.{collapse-length, collapse-idempote
 use Rattle.text.proofs.EscapeLaws.{escape-append, escape-length}
 use Rattle.text.proofs.StruckLaws.{struck-append, struck-trim, struck-rstrip, struck-collapse}
 use Rattle.text.proofs.TrimLaws.{rstrip-append, rstrip-length, trim-length, rstrip-idempotent, trim-idempotent}
-use Rattle.text.proofs.theorems.Statement.{statement}
-use Rattle.text.proofs.theorems.Tie as tie
+use Rattle.text.proofs.theorems.theorems.Statement.{statement}
+use Rattle.text.proofs.theorems.theorems.Tie as tie
 
 returns : tie.Need-returns
 returns c = (
