@@ -1,15 +1,17 @@
 -- What is printed, case by case.
 use mathlib.Core.Path.{_≡_, sym, ap, ap₂, _∙_}
+use mathlib.Core.List.{_++_}
 use Prim.Native.Nat.{ℕ, _+_, _-_, _≤_, _<_}
+use native.Mathlib.Nat.{zero-add}
 use native.Mathlib.Omega.{arith}
 use lib.ListN.{length, take, drop, replicate, length-append, length-replicate}
 use borrow.Author.Tests.{lt-ltb, le-ltb}
 use Rattle.common.specs.Answer.{Answer, refused}
-use Rattle.common.specs.Bytes.{Bytes}
+use Rattle.common.specs.Bytes.{Bytes, padded}
 use Rattle.common.specs.Puts.{Puts}
 use Rattle.common.proofs.Choice.{by-test}
 use Rattle.common.proofs.Parts.{part-from}
-use Rattle.common.proofs.Puts.{puts-length}
+use Rattle.common.proofs.Puts.{puts-length, puts-padded}
 use Rattle.html2text.specs.Extract.{numbers}
 use Rattle.html2text.specs.declared.Extraction.{Extraction}
 use Rattle.html2text.specs.declared.Extraction.the-variants.{Text}
@@ -75,3 +77,15 @@ module _ (input : Bytes) {before to : Bytes} {r : ℕ} where
     unfolding printed
     printed-sheet {o} w p =
         rw (le-ltb room (length input) h, sym line ∙ w) (puts-as p (ap (λ (s : Bytes). answered s o) (part-from input lineLength)))
+
+  -- and zeros behind it
+  pub print-padded : {after : Bytes} → Puts before 0 (printed input) to r × (r ≤ length to) → after ≡ take r to ++ replicate (length to - r) 0
+      → (after ≡ padded (printed input) (length before)) × (r ≡ length (printed input)) × (r ≤ length after)
+  print-padded {after} p e =
+      let place : r ≡ length (printed input) = p .0 .place ∙ zero-add (length (printed input)) in
+      let same = puts-length (p .0) in
+      let padded-is = e ∙ puts-padded (p .0) (omega (arith, place, same, p .1)) in (
+        padded-is,
+        place,
+        omega (arith, place, same, p .1, ap length padded-is, length-append (printed input) (replicate (length before - length (printed input)) 0), length-replicate {A = ℕ} (length before - length (printed input)) 0),
+      )

@@ -57,3 +57,11 @@ behindLine Wrong s = answerLine (option-line.numbers Wrong)
 -- 34 is "tested before 33"; its second number is 0
 unfoldable pub printed : Bytes → Bytes
 printed input = cond (ltb room (length input)) (answerLine (refused 34 0)) (behindLine (lineOf input) (drop lineLength input))
+
+-- the numbers of the line
+abbrev pub answerBehind : OptionLine → Bytes → Answer
+answerBehind (Options o) s = numbers (extractionOf s o room room)
+answerBehind Wrong s = option-line.numbers Wrong
+
+unfoldable pub answerTo : Bytes → Answer
+answerTo input = cond (ltb room (length input)) (refused 34 0) (answerBehind (lineOf input) (drop lineLength input))

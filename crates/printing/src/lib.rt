@@ -15,7 +15,9 @@ ghost use mathlib.Core.List.{[], _∷_, _++_};
 ghost use mathlib.Core.Path.{_≡_};
 ghost use Prim.Native.Nat.{_+_, _≤_};
 ghost use lib.ListN.{length};
+ghost use Rattle.common.specs.Bytes.{padded};
 ghost use Rattle.common.specs.Puts.{Puts};
+ghost use Rattle.printing.specs.Columns.{LinesFit};
 ghost use Rattle.printing.specs.Printed.{answered, answerLine, printed, room, shown, TextFits, zeros};
 
 // No longer input is taken; out and work have as many bytes.
@@ -105,10 +107,18 @@ fn put_printed(to: &mut [u8], input: &[u8]) -> usize
     put_answered(to, &input[LENGTH..], o)
 }
 
-// What the program prints for an input, stored from the start of the lent array on; the place behind it.
+// What the program prints for an input, stored from the start of the lent array on, and zeros behind it; the place behind what is printed.
 pub fn print(input: &[u8], to: &mut [u8; LONGEST]) -> usize
-    ensures stored { λ r. ⌜ Puts (now (to .entry)) 0 (printed (now (input .entry))) (now (to .exit)) r ⌝ }
+    ensures stored { λ r. ⌜ now (to .exit) ≡ padded (printed (now (input .entry))) (length (now (to .entry))) ⌝ }
+    ensures place { λ r. ⌜ r ≡ length (printed (now (input .entry))) ⌝ }
     ensures within { λ r. ⌜ r ≤ length (now (to .exit)) ⌝ }
 {
-    put_printed(to, input)
+    let past = put_printed(to, input);
+    common::clear(to, past);
+    past
 }
+
+// What is printed reads back: every number of the line has room in its columns.
+pub fn theorems()
+    ensures { λ r. ⌜ LinesFit ⌝ }
+{}
