@@ -1,4 +1,6 @@
 // What the program prints for an input: a line of numbers, and a text behind it.
+pub mod theorems;
+
 use common::Answer;
 use html2text::Extraction;
 use numbers::of_extraction;
@@ -17,7 +19,6 @@ ghost use Prim.Native.Nat.{_+_, _≤_};
 ghost use lib.ListN.{length};
 ghost use Rattle.common.specs.Bytes.{padded};
 ghost use Rattle.common.specs.Puts.{Puts};
-ghost use Rattle.printing.specs.Columns.{LinesFit};
 ghost use Rattle.printing.specs.Printed.{answered, answerLine, printed, room, shown, TextFits, zeros};
 
 // No longer input is taken; out and work have as many bytes.
@@ -117,8 +118,3 @@ pub fn print(input: &[u8], to: &mut [u8; LONGEST]) -> usize
     common::clear(to, past);
     past
 }
-
-// What is printed reads back: every number of the line has room in its columns.
-pub fn theorems()
-    ensures { λ r. ⌜ LinesFit ⌝ }
-{}

@@ -1,7 +1,7 @@
 -- `theorems` meets its contract.
 use Rattle.printing.proofs.ColumnLaws.{lines-fit}
-use Rattle.printing.proofs.theorems.Statement.{statement}
-use Rattle.printing.proofs.theorems.Tie as tie
+use Rattle.printing.proofs.theorems.theorems.Statement.{statement}
+use Rattle.printing.proofs.theorems.theorems.Tie as tie
 
 returns : tie.Need-returns
 returns c = lines-fit
