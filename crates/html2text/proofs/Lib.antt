@@ -1,3 +1,4 @@
+pub mod AlikeLaws
 pub mod AlikeSheets
 pub mod AlongLaws
 pub mod AnswerBounds

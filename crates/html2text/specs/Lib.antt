@@ -1,3 +1,4 @@
+pub mod Alike
 pub mod Bounds
 pub mod Collect
 pub mod Demand

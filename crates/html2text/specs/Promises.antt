@@ -2,7 +2,7 @@
 use mathlib.Core.Path.{_≡_}
 use mathlib.Core.Bool.{Bool}
 use mathlib.Core.List.{List}
-use Prim.Native.Nat.{ℕ, _≤_}
+use Prim.Native.Nat.{ℕ, _≤_, _<_}
 use lib.ListN.{length}
 use Rattle.common.specs.Bytes.{Bytes}
 use Rattle.options.specs.declared.ExtractOptions.{ExtractOptions}
@@ -10,8 +10,10 @@ use Rattle.options.specs.declared.Formatting.{Formatting}
 use Rattle.sheet.specs.Verdict.{verdictOf}
 use Rattle.sheet.specs.declared.line.Layout.{Layout}
 use Rattle.sheet.specs.declared.verdict.Verdict.the-variants.{Sheet}
+use Rattle.tree.specs.Forest.{Forest}
 use Rattle.tree.specs.Node.{Node}
 use Rattle.tree.specs.Page.{Page, pageOf}
+use Rattle.html2text.specs.Alike.{SameNumbers, Alike, SameWalk, PagesAlike, SameExtraction, SamePage}
 use Rattle.html2text.specs.Bounds.{mostEvents, EachAdds, RunBounded, EventsBounded}
 use Rattle.html2text.specs.Collect.{Event}
 use Rattle.html2text.specs.Demand3.{Demand3}
@@ -36,6 +38,18 @@ pub record PassesRight : Type 0 where
   pub levels : (f : Formatting) (bullets : Bool) (n : ExtractNode) (text : Bytes) (S : State) → StepLevels f bullets n text S
   pub events : (s : Bytes) (l : Layout) → verdictOf 8 s ≡ Sheet l → (hidden : ℕ → Bool) (o : ExtractOptions) → EventsBounded s l hidden o
   pub run : (o : ExtractOptions) (es : List Event) → length es ≤ mostEvents → EachAdds o es → RunBounded o es
+
+-- trees and pages that are alike but for row numbers
+pub record AlikeRight : Type 0 where
+  pub numbers : SameNumbers
+  pub walk : (old : ℕ → ℕ) (node₁ : ℕ → Node) (hidden₁ : ℕ → Bool) (node₂ : ℕ → Node) (hidden₂ : ℕ → Bool) (o : ExtractOptions) (f g : Forest ℕ)
+      → Alike old node₁ hidden₁ node₂ hidden₂ f g → SameWalk old node₁ hidden₁ node₂ hidden₂ o f g
+  pub extraction : (old : ℕ → ℕ) (filtered₁ : ℕ → Bool) (p₁ : Page) (filtered₂ : ℕ → Bool) (p₂ : Page) (o : ExtractOptions)
+      → PagesAlike old filtered₁ p₁ filtered₂ p₂ o → SameExtraction old filtered₁ p₁ filtered₂ p₂ o
+  -- the same rows, and the same of them filtered out
+  pub page : (filtered₁ : ℕ → Bool) (p₁ : Page) (filtered₂ : ℕ → Bool) (p₂ : Page) (o : ExtractOptions)
+      → SamePage p₁ p₂ → p₁ .root < length (p₁ .depths) → ((i : ℕ) → i < length (p₁ .depths) → filtered₁ i ≡ filtered₂ i)
+      → PagesAlike (λ i. i) filtered₁ p₁ filtered₂ p₂ o
 
 -- demand 3, whatever rows main_content leaves out
 abbrev pub Demand3ForAll : Type 0

@@ -1,5 +1,6 @@
 -- `theorems` meets its contract.
 use lib.Dec.{lit≤}
+use Rattle.html2text.proofs.AlikeLaws.{same-numbers, same-walk, same-extraction, same-pages-alike}
 use Rattle.html2text.proofs.BoundLaws.{run-bounded}
 use Rattle.html2text.proofs.Demand3Laws.{demand-3}
 use Rattle.html2text.proofs.EncodedLaws.{text-is-utf8}
@@ -13,7 +14,7 @@ use Rattle.html2text.proofs.ShowingLaws.{shown-in-pieces, fed-in-two}
 use Rattle.html2text.proofs.WalkLaws.{walk-of-tree}
 use Rattle.html2text.proofs.theorems.theorems.Statement.{statement}
 use Rattle.html2text.proofs.theorems.theorems.Tie as tie
-use Rattle.html2text.specs.Promises.{WalkRight, PassesRight}
+use Rattle.html2text.specs.Promises.{WalkRight, PassesRight, AlikeRight}
 use Rattle.sheet.proofs.Acceptance.{accepts}
 
 walk : WalkRight
@@ -29,8 +30,11 @@ passes = record {
   run = run-bounded;
 }
 
+alike : AlikeRight
+alike = record { numbers = same-numbers; walk = same-walk; extraction = same-extraction; page = same-pages-alike }
+
 returns : tie.Need-returns
-returns c = (walk, (passes, (demand-3, (text-is-utf8, examples-are-right))))
+returns c = (walk, (passes, (alike, (demand-3, (text-is-utf8, examples-are-right)))))
 
 pub theorems-spec : {M : Type 1} → statement M
 theorems-spec = tie.close (tie.spec returns)
