@@ -1,0 +1,12 @@
+pub mod DecodeEncode
+pub mod EncodeDecode
+pub mod LineBack
+pub mod Lists
+pub mod Marking
+pub mod NumberBytes
+pub mod PageLaws
+pub mod Refusals
+pub mod Rightness
+pub mod Verdicts
+pub mod Widths
+pub mod Writing
