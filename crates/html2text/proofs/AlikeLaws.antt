@@ -13,11 +13,11 @@ use Rattle.options.specs.declared.ExtractOptions.{ExtractOptions}
 use Rattle.options.specs.declared.Formatting.{Formatting}
 use Rattle.tree.specs.Forest.{Forest, empty, node}
 use Rattle.tree.specs.Node.{Node}
-use Rattle.tree.specs.Page.{Page}
+use Rattle.tree.specs.Page.{Page, SamePage}
 use Rattle.tree.specs.Rows.{build, numbered, childrenOf}
 use Rattle.tree.proofs.Order.{trichotomy, build-deeper, build-here, build-less}
 use Rattle.writer.specs.Out.{greater}
-use Rattle.html2text.specs.Alike.{eventBy, entryBy, pieceBy, lineBy, runBy, extractionBy, SameNumbers, RowsAlike, Alike, SameWalk, PagesAlike, SameExtraction, SamePage}
+use Rattle.html2text.specs.Alike.{eventBy, entryBy, pieceBy, lineBy, runBy, extractionBy, SameNumbers, RowsAlike, Alike, SameWalk, PagesAlike, SameExtraction}
 use Rattle.html2text.specs.Collect.{Event, Entry, pushes, pushed, amended, onLast, collect, collectAll}
 use Rattle.html2text.specs.Extract.{Run, going, tooManyLevels, tooManyRows, passesLevels, passesRows, taken, serialized, longestText, namesLength, longestNames, concluded, outThen, workThen, hidden, entries, passes, workNeed, extraction, outAfter, workAfter}
 use Rattle.html2text.specs.Pieces.{Piece, rowPieces, along, pieces}

@@ -3,7 +3,7 @@
 use mathlib.Core.Path.{_≡_}
 use mathlib.Core.Bool.{Bool, true, false}
 use mathlib.Core.List.{List, map}
-use Prim.Native.Nat.{ℕ, zero, suc, _<_}
+use Prim.Native.Nat.{ℕ, zero, suc}
 use lib.ListN.{length}
 use Rattle.common.specs.Bytes.{Bytes}
 use Rattle.options.specs.declared.ExtractOptions.{ExtractOptions}
@@ -97,10 +97,3 @@ module _ (old : ℕ → ℕ) (filtered₁ : ℕ → Bool) (p₁ : Page) (filtere
     pub answer : (out work : ℕ) → extraction filtered₁ p₁ o out work ≡ extractionBy old (extraction filtered₂ p₂ o out work)
     pub out : (out work : Bytes) → outAfter filtered₁ p₁ o out work ≡ outAfter filtered₂ p₂ o out work
     pub work : (work : Bytes) → workAfter filtered₁ p₁ o work ≡ workAfter filtered₂ p₂ o work
-
--- the same rows: what the pages say past their last row counts nowhere
-pub record SamePage (p₁ p₂ : Page) : Type 0 where
-  pub depths : p₁ .depths ≡ p₂ .depths
-  pub root : p₁ .root ≡ p₂ .root
-  pub node : (i : ℕ) → i < length (p₁ .depths) → p₁ .node i ≡ p₂ .node i
-  pub marked : (i : ℕ) → i < length (p₁ .depths) → p₁ .marked i ≡ p₂ .marked i

@@ -12,8 +12,8 @@ use Rattle.sheet.specs.declared.line.Layout.{Layout}
 use Rattle.sheet.specs.declared.verdict.Verdict.the-variants.{Sheet}
 use Rattle.tree.specs.Forest.{Forest}
 use Rattle.tree.specs.Node.{Node}
-use Rattle.tree.specs.Page.{Page, pageOf}
-use Rattle.html2text.specs.Alike.{SameNumbers, Alike, SameWalk, PagesAlike, SameExtraction, SamePage}
+use Rattle.tree.specs.Page.{Page, pageOf, SamePage}
+use Rattle.html2text.specs.Alike.{SameNumbers, Alike, SameWalk, PagesAlike, SameExtraction}
 use Rattle.html2text.specs.Bounds.{mostEvents, EachAdds, RunBounded, EventsBounded}
 use Rattle.html2text.specs.Collect.{Event}
 use Rattle.html2text.specs.Demand3.{Demand3}

@@ -7,7 +7,7 @@ use lib.Dec.{eqb}
 use lib.ListN.{length, getD, take, drop, length-map}
 use lib.Seq.{drop-cons, getD-take, length-take-le, ext-getD}
 use Rattle.common.specs.Bytes.{Bytes}
-use Rattle.sheet.specs.Layout.{rowAt, attributeAt, range}
+use Rattle.sheet.specs.Layout.{depths, rowAt, attributeAt, range}
 use Rattle.sheet.specs.Verdict.{countsFrom, verdictOf}
 use Rattle.sheet.specs.declared.line.Attribute as line
 use Rattle.sheet.specs.declared.line.Layout.{Layout}
@@ -15,10 +15,10 @@ use Rattle.sheet.specs.declared.line.Row.{Row}
 use Rattle.sheet.specs.declared.verdict.Verdict.the-variants.{Sheet}
 use Rattle.tree.specs.Attributes.{attributesFrom}
 use Rattle.tree.specs.Node.{Attribute}
-use Rattle.tree.specs.Page.{nodeAt, pageOf}
+use Rattle.tree.specs.Page.{nodeAt, pageOf, SamePage}
 use Rattle.sheet_form.specs.Encoding.{encode, decode, listed, Fits}
 use Rattle.sheet_form.specs.Decoded.{Decoded, noRow, noAttribute, countsOf, rowIn, depthsIn, layoutFor}
-use Rattle.sheet_form.specs.Pages.{shown, nodeIn, pageIn, SamePage}
+use Rattle.sheet_form.specs.Pages.{shown, nodeIn, pageIn}
 use Rattle.sheet_form.specs.Right.{Right}
 use Rattle.sheet_form.proofs.DecodeEncode.{row-is, attribute-is, range-is}
 use Rattle.sheet_form.proofs.EncodeDecode.{of-lined}
@@ -72,8 +72,8 @@ module _ (w : ℕ) (d : Decoded) (fits : Fits w d) where
           attributes-shown (countsOf (take i (d .rows))) (rowIn d i .attributes) (omega (arith, counts-prefix (d .rows) i h, r .counts)),
         )
 
-    there : {i : ℕ} → i < length (depthsIn d) → i < length (d .rows)
-    there h = omega (arith, length-map (d .rows) (λ (x : Row). x .depth))
+    there : {i : ℕ} → i < length (depths s l) → i < length (d .rows)
+    there h = omega (arith, ap length (depths-is w d fits), length-map (d .rows) (λ (x : Row). x .depth))
 
     pub page-encode : SamePage (pageOf (encode w d) (layoutFor w d)) (pageIn d)
     page-encode =

@@ -1,9 +1,8 @@
 -- What a decoded sheet shows: the page of its rows, with the bytes of its ranges.
-use mathlib.Core.Path.{_≡_}
 use mathlib.Core.List.{map}
-use Prim.Native.Nat.{ℕ, _<_}
+use Prim.Native.Nat.{ℕ}
 use lib.Dec.{eqb}
-use lib.ListN.{length, take, drop}
+use lib.ListN.{take, drop}
 use Rattle.sheet.specs.declared.line.Attribute as line
 use Rattle.tree.specs.Node.{Node, Attribute}
 use Rattle.tree.specs.Page.{Page, kindOf}
@@ -25,10 +24,3 @@ module _ (d : Decoded) where
 
   abbrev pub pageIn : Page
   pageIn = record { depths = depthsIn d; node = nodeIn; marked = λ i. eqb (rowIn d i .skip) 1; root = d .root }
-
--- two pages that show the same rows
-pub record SamePage (p q : Page) : Type 0 where
-  pub depths : p .depths ≡ q .depths
-  pub root : p .root ≡ q .root
-  pub node : (i : ℕ) → i < length (q .depths) → p .node i ≡ q .node i
-  pub marked : (i : ℕ) → i < length (q .depths) → p .marked i ≡ q .marked i

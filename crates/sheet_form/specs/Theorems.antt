@@ -8,12 +8,12 @@ use Rattle.sheet.specs.Layout.{rowAt, attributeAt, range}
 use Rattle.sheet.specs.Verdict.{numbers, verdictOf}
 use Rattle.sheet.specs.declared.line.Layout.{Layout}
 use Rattle.sheet.specs.declared.verdict.Verdict.the-variants.{Sheet}
-use Rattle.tree.specs.Page.{pageOf}
+use Rattle.tree.specs.Page.{pageOf, SamePage}
 use Rattle.sheet_form.specs.Decoded.{Decoded, layoutFor, rowIn, attributeIn, rangeIn}
 use Rattle.sheet_form.specs.Encoding.{encode, decode, Lined, Fits, poolLimit}
 use Rattle.sheet_form.specs.Judged.{countsIn, verdictIn}
 use Rattle.sheet_form.specs.Marks.{ButMarks, setSkip}
-use Rattle.sheet_form.specs.Pages.{pageIn, SamePage}
+use Rattle.sheet_form.specs.Pages.{pageIn}
 use Rattle.sheet_form.specs.Right.{Right}
 
 -- ---- from bytes

@@ -1,8 +1,10 @@
 -- A sheet as decoded: depths, and rows with the bytes that their ranges show (document 01, "The sheet").
+use mathlib.Core.Path.{_≡_}
 use mathlib.Core.Bool.{Bool, cond}
 use mathlib.Core.List.{List}
-use Prim.Native.Nat.{ℕ}
+use Prim.Native.Nat.{ℕ, _<_}
 use lib.Dec.{eqb}
+use lib.ListN.{length}
 use Rattle.common.specs.Bytes.{Bytes}
 use Rattle.sheet.specs.Layout.{depths, rowAt, range}
 use Rattle.sheet.specs.Verdict.{countsFrom}
@@ -31,3 +33,10 @@ module _ (s : Bytes) (l : Layout) where
 
   abbrev pub pageOf : Page
   pageOf = record { depths = depths s l; node = nodeAt; marked = λ i. eqb (rowAt s l i .skip) 1; root = l .root }
+
+-- two pages with the same rows: what they say past their last row counts nowhere
+pub record SamePage (p₁ p₂ : Page) : Type 0 where
+  pub depths : p₁ .depths ≡ p₂ .depths
+  pub root : p₁ .root ≡ p₂ .root
+  pub node : (i : ℕ) → i < length (p₁ .depths) → p₁ .node i ≡ p₂ .node i
+  pub marked : (i : ℕ) → i < length (p₁ .depths) → p₁ .marked i ≡ p₂ .marked i
