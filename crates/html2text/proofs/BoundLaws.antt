@@ -16,9 +16,9 @@ use Rattle.options.specs.declared.Formatting.{Formatting}
 use Rattle.tags.specs.Tags.{isTr, isPre, isTextarea}
 use Rattle.writer.specs.Out.{Out, pushAll}
 use Rattle.writer.proofs.OutLaws.{greater-max, push-all-text, push-all-peak}
-use Rattle.html2text.specs.Bounds.{mostEvents, mostAdded, mostWritten, beside, Going, StateWithin, FusedWithin, Each, AddsAtMost, RunWithin, StateBounded, Bounded, Adds, EachAdds, RunBounded}
+use Rattle.html2text.specs.Bounds.{mostEvents, mostWritten, beside, Going, StateWithin, FusedWithin, Each, AddsAtMost, RunWithin, StateBounded, Bounded, Adds, EachAdds, RunBounded}
 use Rattle.html2text.specs.Collect.{Event, Entry, tagNumber, preDepth, added}
-use Rattle.html2text.specs.Extract.{Run, going, tooManyLevels, tooManyRows, passesLevels, passesRows}
+use Rattle.html2text.specs.Extract.{passesLevels, passesRows}
 use Rattle.html2text.specs.Fused.{Fused, idle, closed, openEntry, pushesOn, emptied, opened, grown, fed, fedAll}
 use Rattle.html2text.specs.Levels.{recounted, depthAfter}
 use Rattle.html2text.specs.Serialize.{State, changesLevel, step}

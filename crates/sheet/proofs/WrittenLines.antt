@@ -1,10 +1,9 @@
 -- A line of four numbers that have room in their columns reads back as it was written.
 use mathlib.Core.Path.{_≡_, sym, ap, subst, _∙_}
-use mathlib.Core.List.{[], _∷_, _++_, append-assoc}
+use mathlib.Core.List.{_∷_, _++_, append-assoc}
 use Prim.Native.Nat.{ℕ, _+_, _^_, _<_}
 use native.Mathlib.Omega.{arith}
-use lib.Dec.{eqb}
-use lib.ListN.{length, getD, take, drop}
+use lib.ListN.{getD, take, drop}
 use lib.Seq.{take-at, drop-at, drop-drop, getD-drop}
 use Rattle.common.specs.Bytes.{Bytes}
 use Rattle.sheet.specs.Columns.{columns, fieldOf}
