@@ -7,15 +7,16 @@ use native.Mathlib.Omega.{arith}
 use lib.Dec.{eqb, ltb}
 use lib.ListN.{take, drop, length-take, length-drop}
 use lib.Seq.{getD-take, getD-drop, ext-getD}
-use borrow.Author.Tests.{ltb-true, ltb-false}
+use borrow.Author.Tests.{le-ltb, ltb-true, ltb-false}
 use Rattle.common.specs.Bytes.{Bytes}
 use Rattle.common.proofs.Choice.{by-test}
 use Rattle.sheet.specs.Columns.{fieldOf}
-use Rattle.sheet.specs.Layout.{nodeLength, nodeStart, poolStart, rowAt, attributeAt, range, depthsFrom, depths}
-use Rattle.sheet.specs.Lines.{numberIn, fieldAt, numberAt}
+use Rattle.sheet.specs.Layout.{nodeLength, nodeStart, attributeStart, poolStart, rowAt, attributeAt, range, depthsFrom, depths}
+use Rattle.sheet.specs.Lines.{numberIn, fieldAt, numberAt, rowFrom, attributeFrom}
 use Rattle.sheet.specs.Verdict.{countsFrom}
 use Rattle.sheet.specs.declared.line.Attribute as line
 use Rattle.sheet.specs.declared.line.Layout.{Layout}
+use Rattle.sheet.specs.declared.line.Row.{Row}
 use Rattle.tree.specs.Attributes.{attributesFrom}
 use Rattle.tree.specs.Page.{kindOf, nodeAt, pageOf}
 use Rattle.tree.proofs.Order.{trichotomy}
@@ -71,16 +72,19 @@ module _ {s₁ s₂ : Bytes} {l : Layout} (alike : AlikeButMarks s₁ s₂ l) wh
     value-len : rowAt s₂ l i .«value_len» ≡ rowAt s₁ l i .«value_len»
     attributes : rowAt s₂ l i .attributes ≡ rowAt s₁ l i .attributes
 
-  row-same : (i : ℕ) → RowSame i
+  column-same : (i : ℕ) (column : Row → ℕ) → column (rowFrom (l .width) s₂ (nodeStart l i)) ≡ column (rowFrom (l .width) s₁ (nodeStart l i)) → column (rowAt s₂ l i) ≡ column (rowAt s₁ l i)
   unfolding rowAt
+  column-same i column e = by-test (ltb i (l .nodes)) (λ t. rw t e) (λ t. rw t)
+
+  row-same : (i : ℕ) → RowSame i
   row-same i = record {
-    depth = number-same _ (λ c h. before-skip l i _ (omega arith) (omega arith));
-    kind = number-same _ (λ c h. before-skip l i _ (omega arith) (omega arith));
-    name-at = number-same _ (λ c h. behind-skip l i _ (omega arith) (omega arith));
-    name-len = number-same _ (λ c h. behind-skip l i _ (omega arith) (omega arith));
-    value-at = number-same _ (λ c h. behind-skip l i _ (omega arith) (omega arith));
-    value-len = number-same _ (λ c h. behind-skip l i _ (omega arith) (omega arith));
-    attributes = number-same _ (λ c h. behind-skip l i _ (omega arith) (omega arith));
+    depth = column-same i (λ r. r .depth) (number-same _ (λ c h. before-skip l i _ (omega arith) (omega arith)));
+    kind = column-same i (λ r. r .kind) (number-same _ (λ c h. before-skip l i _ (omega arith) (omega arith)));
+    name-at = column-same i (λ r. r .«name_at») (number-same _ (λ c h. behind-skip l i _ (omega arith) (omega arith)));
+    name-len = column-same i (λ r. r .«name_len») (number-same _ (λ c h. behind-skip l i _ (omega arith) (omega arith)));
+    value-at = column-same i (λ r. r .«value_at») (number-same _ (λ c h. behind-skip l i _ (omega arith) (omega arith)));
+    value-len = column-same i (λ r. r .«value_len») (number-same _ (λ c h. behind-skip l i _ (omega arith) (omega arith)));
+    attributes = column-same i (λ r. r .attributes) (number-same _ (λ c h. behind-skip l i _ (omega arith) (omega arith)));
   }
 
   -- ---- attribute lines and ranges
@@ -91,13 +95,17 @@ module _ {s₁ s₂ : Bytes} {l : Layout} (alike : AlikeButMarks s₁ s₂ l) wh
     value-at : attributeAt s₂ l j .«value_at» ≡ attributeAt s₁ l j .«value_at»
     value-len : attributeAt s₂ l j .«value_len» ≡ attributeAt s₁ l j .«value_len»
 
-  attribute-same : (j : ℕ) → AttributeSame j
+  entry-same : (j : ℕ) (column : line.Attribute → ℕ) → column (attributeFrom (l .width) s₂ (attributeStart l j)) ≡ column (attributeFrom (l .width) s₁ (attributeStart l j))
+      → column (attributeAt s₂ l j) ≡ column (attributeAt s₁ l j)
   unfolding attributeAt
+  entry-same j column e = by-test (ltb j (l .attributes)) (λ t. rw t e) (λ t. rw t)
+
+  attribute-same : (j : ℕ) → AttributeSame j
   attribute-same j = record {
-    name-at = number-same _ (λ c h. behind-nodes l _ (omega arith));
-    name-len = number-same _ (λ c h. behind-nodes l _ (omega arith));
-    value-at = number-same _ (λ c h. behind-nodes l _ (omega arith));
-    value-len = number-same _ (λ c h. behind-nodes l _ (omega arith));
+    name-at = entry-same j (λ a. a .«name_at») (number-same _ (λ c h. behind-nodes l _ (omega arith)));
+    name-len = entry-same j (λ a. a .«name_len») (number-same _ (λ c h. behind-nodes l _ (omega arith)));
+    value-at = entry-same j (λ a. a .«value_at») (number-same _ (λ c h. behind-nodes l _ (omega arith)));
+    value-len = entry-same j (λ a. a .«value_len») (number-same _ (λ c h. behind-nodes l _ (omega arith)));
   }
 
   range-same : {at₁ at₂ len₁ len₂ : ℕ} → at₂ ≡ at₁ → len₂ ≡ len₁ → range s₂ l at₂ len₂ ≡ range s₁ l at₁ len₁
@@ -140,7 +148,7 @@ module _ {s₁ s₂ : Bytes} {l : Layout} (alike : AlikeButMarks s₁ s₂ l) wh
   -- behind the last row no mark is new
   skip-same : (i : ℕ) → l .nodes ≤ i → rowAt s₂ l i .skip ≡ rowAt s₁ l i .skip
   unfolding rowAt
-  skip-same i h = number-same _ (λ c g. behind-nodes l _ (omega (arith, mul-le-mul-left (8 * l .width + 1) h)))
+  skip-same i h = rw (le-ltb i (l .nodes) h)
 
   pub further-marks : FurtherMarks (pageOf s₁ l) (pageOf s₂ l)
   further-marks = record {

@@ -9,7 +9,7 @@ use lib.Seq.{take-append-seam}
 use Rattle.common.specs.Bytes.{Bytes, padded}
 use Rattle.common.proofs.Choice.{absurd-test}
 use Rattle.options.specs.declared.ExtractOptions.{ExtractOptions}
-use Rattle.sheet.specs.Verdict.{verdictOf}
+use Rattle.sheet.specs.Verdict.{verdict}
 use Rattle.sheet.specs.declared.line.Layout.{Layout}
 use Rattle.sheet.specs.declared.verdict.Verdict.{Verdict}
 use Rattle.sheet.specs.declared.verdict.Verdict.the-variants.{Sheet, Length, Format, Counts, Kind, Tree, Range, Encoding}
@@ -75,7 +75,7 @@ sheet-of ask (Range line) visits len e = absurd-test (ap isText e) refl
 sheet-of ask (Encoding line) visits len e = absurd-test (ap isText e) refl
 
 module _ (filters : (ℕ → Node) → List ℕ → ℕ → ExtractOptions → ℕ → Bool) where
-  pub gives-text : {s : Bytes} {o : ExtractOptions} {out work t : Bytes} (l : Layout) → verdictOf 8 s ≡ Sheet l → Gives filters s o out work t → TextOf (filteredBy filters) (pageOf s l) o t
+  pub gives-text : {s : Bytes} {o : ExtractOptions} {out work t : Bytes} (l : Layout) → verdict s ≡ Sheet l → Gives filters s o out work t → TextOf (filteredBy filters) (pageOf s l) o t
   unfolding extractionOf outAfterOf extraction outAfter
   gives-text {s} {o} {out} {work} {t} l e g =
       let p = pageOf s l in
@@ -83,7 +83,7 @@ module _ (filters : (ℕ → Node) → List ℕ → ℕ → ExtractOptions → �
       let c = concluded-text (workNeed f p o) (passes f p o) (serialized o (entries f p o)) out work t (g .visits) (rw e at (g .answer)) (rw e at (g .text)) in
       record { state = c .state; run = c .run; text = c .text }
 
-  pub gives-sheet : {s : Bytes} {o : ExtractOptions} {out work t : Bytes} → Gives filters s o out work t → SheetOf (verdictOf 8 s)
+  pub gives-sheet : {s : Bytes} {o : ExtractOptions} {out work t : Bytes} → Gives filters s o out work t → SheetOf (verdict s)
   unfolding extractionOf
   gives-sheet {s} {o} {out} {work} {t} g =
-      sheet-of (λ l. extraction (filteredBy filters (pageOf s l) o) (pageOf s l) o (length out) (length work)) (verdictOf 8 s) (g .visits) (length t) (g .answer)
+      sheet-of (λ l. extraction (filteredBy filters (pageOf s l) o) (pageOf s l) o (length out) (length work)) (verdict s) (g .visits) (length t) (g .answer)

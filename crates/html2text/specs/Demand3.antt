@@ -10,7 +10,7 @@ use Rattle.options.specs.declared.ExtractOptions.{ExtractOptions}
 use Rattle.options.specs.declared.Formatting.the-variants.{Off}
 use Rattle.sheet.specs.Column.{parentOf}
 use Rattle.sheet.specs.Layout.{nodeStart, depths}
-use Rattle.sheet.specs.Verdict.{verdictOf}
+use Rattle.sheet.specs.Verdict.{verdict}
 use Rattle.sheet.specs.declared.line.Layout.{Layout}
 use Rattle.sheet.specs.declared.verdict.Verdict.the-variants.{Sheet}
 use Rattle.tree.specs.Forest.{Descendant}
@@ -31,8 +31,8 @@ pub record InSkip (l : Layout) (k : ℕ) : Type 0 where
 
 -- "alike but for further marks in the second, on any rows that are the root or below it"
 pub record AlikeButMarks (s₁ s₂ : Bytes) (l : Layout) : Type 0 where
-  pub first : verdictOf 8 s₁ ≡ Sheet l
-  pub second : verdictOf 8 s₂ ≡ Sheet l
+  pub first : verdict s₁ ≡ Sheet l
+  pub second : verdict s₂ ≡ Sheet l
   pub size : length s₂ ≡ length s₁
   -- every other byte is the same
   pub same : (k : ℕ) → (InSkip l k → ⊥) → getD s₂ k 0 ≡ getD s₁ k 0

@@ -10,8 +10,8 @@ use Rattle.common.specs.Bytes.{Bytes, codes, padded}
 use Rattle.options.specs.Options.{isOff}
 use Rattle.options.specs.declared.ExtractOptions.{ExtractOptions}
 use Rattle.options.specs.declared.Formatting.{Formatting}
-use Rattle.sheet.specs.Verdict.{verdictOf}
-use Rattle.sheet.specs.Verdict as verdict
+use Rattle.sheet.specs.Verdict.{verdict}
+use Rattle.sheet.specs.Verdict as sheet-verdict
 use Rattle.tags.specs.Tags.{isTr}
 use Rattle.text.specs.Text.{rstrip}
 use Rattle.tree.specs.Node.{element, text, comment, Node}
@@ -136,7 +136,7 @@ module _ (filtered : ℕ → Bool) (p : Page) (o : ExtractOptions) where
 -- the numbers of each case: number, second number, visits, length
 abbrev pub numbers : Extraction → Answer
 numbers (Text passes len) = record { number = 0; second = 0; visits = passes; length = len }
-numbers (Refused v) = verdict.numbers v
+numbers (Refused v) = sheet-verdict.numbers v
 numbers (ListLevels line) = refused 21 line
 numbers (OpenRows line) = refused 22 line
 numbers (WorkTooShort need) = refused 31 need
@@ -150,10 +150,10 @@ module _ (filters : (ℕ → Node) → List ℕ → ℕ → ExtractOptions → �
   filteredBy p o = filters (p .node) (p .depths) (p .root) o
 
   unfoldable pub extractionOf : Bytes → ExtractOptions → ℕ → ℕ → Extraction
-  extractionOf s o out work = onSheet (λ l. extraction (filteredBy (pageOf s l) o) (pageOf s l) o out work) Refused (verdictOf 8 s)
+  extractionOf s o out work = onSheet (λ l. extraction (filteredBy (pageOf s l) o) (pageOf s l) o out work) Refused (verdict s)
 
   unfoldable pub outAfterOf : Bytes → ExtractOptions → Bytes → Bytes → Bytes
-  outAfterOf s o out work = onSheet (λ l. outAfter (filteredBy (pageOf s l) o) (pageOf s l) o out work) (λ v. out) (verdictOf 8 s)
+  outAfterOf s o out work = onSheet (λ l. outAfter (filteredBy (pageOf s l) o) (pageOf s l) o out work) (λ v. out) (verdict s)
 
   unfoldable pub workAfterOf : Bytes → ExtractOptions → Bytes → Bytes
-  workAfterOf s o work = onSheet (λ l. workAfter (filteredBy (pageOf s l) o) (pageOf s l) o work) (λ v. work) (verdictOf 8 s)
+  workAfterOf s o work = onSheet (λ l. workAfter (filteredBy (pageOf s l) o) (pageOf s l) o work) (λ v. work) (verdict s)

@@ -7,7 +7,7 @@ use lib.ListN.{length}
 use Rattle.common.specs.Bytes.{Bytes}
 use Rattle.options.specs.declared.ExtractOptions.{ExtractOptions}
 use Rattle.options.specs.declared.Formatting.{Formatting}
-use Rattle.sheet.specs.Verdict.{verdictOf}
+use Rattle.sheet.specs.Verdict.{verdict}
 use Rattle.sheet.specs.declared.line.Layout.{Layout}
 use Rattle.sheet.specs.declared.verdict.Verdict.the-variants.{Sheet}
 use Rattle.tree.specs.Forest.{Forest}
@@ -26,7 +26,7 @@ use Rattle.html2text.specs.declared.ExtractNode.{ExtractNode}
 
 -- the walk of `extract_plain_text`
 pub record WalkRight : Type 0 where
-  pub page : (s : Bytes) (l : Layout) → verdictOf 8 s ≡ Sheet l → PageRight (pageOf s l)
+  pub page : (s : Bytes) (l : Layout) → verdict s ≡ Sheet l → PageRight (pageOf s l)
   pub tree : (p : Page) (hiddenAt : ℕ → ℕ → Bool) (hidden : ℕ → Bool) (o : ExtractOptions) → HidesRows p hiddenAt hidden → PageRight p → WalkOfTree p hiddenAt hidden o
   pub level : (p : Page) (hidden : ℕ → Bool) (o : ExtractOptions) → LevelMet p hidden o
 
@@ -36,7 +36,7 @@ pub record PassesRight : Type 0 where
   pub pieces : (f : Formatting) (bullets : Bool) → ShownInPieces f bullets
   pub fed : (o : ExtractOptions) (e : Event) (F : Fused) → FedInTwo o e F
   pub levels : (f : Formatting) (bullets : Bool) (n : ExtractNode) (text : Bytes) (S : State) → StepLevels f bullets n text S
-  pub events : (s : Bytes) (l : Layout) → verdictOf 8 s ≡ Sheet l → (hidden : ℕ → Bool) (o : ExtractOptions) → EventsBounded s l hidden o
+  pub events : (s : Bytes) (l : Layout) → verdict s ≡ Sheet l → (hidden : ℕ → Bool) (o : ExtractOptions) → EventsBounded s l hidden o
   pub run : (o : ExtractOptions) (es : List Event) → length es ≤ mostEvents → EachAdds o es → RunBounded o es
 
 -- trees and pages that are alike but for row numbers

@@ -33,7 +33,7 @@ ghost use Rattle.common.specs.Answer.{outAfter, writtenIn};
 ghost use Rattle.links.specs.Questions.{measureAnswerOf};
 ghost use Rattle.patterns.specs.Answers.{answerOf};
 ghost use Rattle.sheet.specs.Column.{parentOf};
-ghost use Rattle.sheet.specs.Verdict.{numbers, verdictOf};
+ghost use Rattle.sheet.specs.Verdict.{numbers, verdict};
 ghost use Rattle.text.specs.Text as texts;
 ghost use Rattle.tree.specs.Attributes.{attributeOf};
 ghost use Rattle.tree.specs.Questions.{relativeNumbers};
@@ -59,7 +59,7 @@ pub struct LinkMeasure {
 
 #[no_mangle]
 pub extern "C" fn levzhada_check(sheet: &[u8]) -> Answer
-    ensures { λ r. ⌜ r ≡ numbers (verdictOf 8 (now (sheet .entry))) ⌝ }
+    ensures { λ r. ⌜ r ≡ numbers (verdict (now (sheet .entry))) ⌝ }
 {
     of_verdict(check(sheet))
 }

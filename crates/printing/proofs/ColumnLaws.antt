@@ -25,7 +25,7 @@ use Rattle.options.specs.declared.line.OptionLine.the-variants.{Options, Wrong}
 use Rattle.reader.specs.Extraction.{filters, extractionOf, outAfterOf}
 use Rattle.sheet.specs.Accepted.{Accepted}
 use Rattle.sheet.specs.Lines.{shortLineOf}
-use Rattle.sheet.specs.Verdict.{verdictOf}
+use Rattle.sheet.specs.Verdict.{verdict}
 use Rattle.sheet.specs.declared.line.Layout.{Layout}
 use Rattle.sheet.specs.declared.verdict.Verdict.{Verdict}
 use Rattle.sheet.specs.declared.verdict.Verdict.the-variants.{Sheet, Length, Format, Counts, Kind, Tree, Range, Encoding}
@@ -82,9 +82,9 @@ by-verdict P ask (Encoding line) f g = g
 sheet-fits : (s : Bytes) (o : ExtractOptions) → length s ≤ room → NumbersFit (numbers (extractionOf s o room room))
 unfolding extract.extractionOf
 sheet-fits s o short =
-    by-verdict (λ x. NumbersFit (numbers x)) (λ l. extraction (left l) (pageOf s l) o room room) (verdictOf 8 s)
+    by-verdict (λ x. NumbersFit (numbers x)) (λ l. extraction (left l) (pageOf s l) o room room) (verdict s)
     (λ l e. let a = accepts (lit≤ tt) e in bounded-fits (a .1) (a .0) short (extraction-bounded (a .1) (left l) o room room))
-    (refused-fits (verdictOf 8 s) (verdict-low s))
+    (refused-fits (verdict s) (verdict-low s))
   where
     left : Layout → ℕ → Bool
     left l = filters (pageOf s l .node) (pageOf s l .depths) (pageOf s l .root) o

@@ -22,7 +22,7 @@ use Rattle.html2text.proofs.GoingLaws.{going-at}
 use Rattle.html2text.proofs.PageLaws.{page-right}
 use Rattle.html2text.proofs.WalkLaws.{walk-of-tree}
 use Rattle.options.specs.declared.ExtractOptions.{ExtractOptions}
-use Rattle.sheet.specs.Verdict.{verdictOf}
+use Rattle.sheet.specs.Verdict.{verdict}
 use Rattle.sheet.specs.declared.line.Layout.{Layout}
 use Rattle.sheet.specs.declared.verdict.Verdict.{Verdict}
 use Rattle.sheet.specs.declared.verdict.Verdict.the-variants.{Sheet, Length, Format, Counts, Kind, Tree, Range, Encoding}
@@ -93,7 +93,7 @@ unfolding extract.extractionOf extract.outAfterOf extract.workAfterOf extraction
 demand-1 s o out work =
     let r = verdict-right out work (λ l. extraction (left l) (pageOf s l) o (length out) (length work)) (λ l. outAfter (left l) (pageOf s l) o out work) (λ l. workAfter (left l) (pageOf s l) o work)
     (λ l. run-right out work (workNeed (left l) (pageOf s l) o) (passes (left l) (pageOf s l) o) (serialized o (entries (left l) (pageOf s l) o)))
-    (verdictOf 8 s) in
+    (verdict s) in
     record { number = r .number; text = r .text; refused = r .refused; kept = r .kept; cleared = r .cleared }
   where
     left : Layout → ℕ → Bool
@@ -101,7 +101,7 @@ demand-1 s o out work =
 
 -- ---- 2
 
-module _ (s : Bytes) (l : Layout) (o : ExtractOptions) (e : verdictOf 8 s ≡ Sheet l) where
+module _ (s : Bytes) (l : Layout) (o : ExtractOptions) (e : verdict s ≡ Sheet l) where
   abbrev page : Page
   page = pageOf s l
 

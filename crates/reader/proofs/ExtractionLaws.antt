@@ -13,7 +13,7 @@ use Rattle.html2text.specs.declared.Extraction.{Extraction}
 use Rattle.html2text.specs.declared.Extraction.the-variants.{Refused}
 use Rattle.options.specs.declared.ExtractOptions.{ExtractOptions}
 use Rattle.sheet.specs.Layout.{depths}
-use Rattle.sheet.specs.Verdict.{verdictOf, headerOf, judged, isSheet}
+use Rattle.sheet.specs.Verdict.{verdict, headerOf, judged, isSheet}
 use Rattle.sheet.specs.declared.line.Layout.{Layout}
 use Rattle.sheet.specs.declared.verdict.Verdict.{Verdict}
 use Rattle.sheet.specs.declared.verdict.Verdict.the-variants.{Sheet}
@@ -28,7 +28,7 @@ unfolding filtered filterDepth
 same-filters s l o = refl
 
 module _ (s : Bytes) (o : ExtractOptions) (out work : Bytes) where
-  module _ {l : Layout} {r : Extraction} {out′ work′ : Bytes} (v : verdictOf 8 s ≡ Sheet l) (x : Extracts (filtered (pageOf s l) o) (pageOf s l) o out work r out′ work′) where
+  module _ {l : Layout} {r : Extraction} {out′ work′ : Bytes} (v : verdict s ≡ Sheet l) (x : Extracts (filtered (pageOf s l) o) (pageOf s l) o out work r out′ work′) where
     ours : Extracts (filters (nodeAt s l) (depths s l) (l .root) o) (pageOf s l) o out work r out′ work′
     ours = subst (λ (f : ℕ → Bool). Extracts f (pageOf s l) o out work r out′ work′) (same-filters s l o) x
 
@@ -44,7 +44,7 @@ module _ (s : Bytes) (o : ExtractOptions) (out work : Bytes) where
     unfolding extract.workAfterOf
     sheet-work = rw v (ours .work-is)
 
-  module _ {v : Verdict} (e : v ≡ verdictOf 8 s) (k : isSheet v ≡ false) where
+  module _ {v : Verdict} (e : v ≡ verdict s) (k : isSheet v ≡ false) where
     pub refused-answer : Refused v ≡ extractionOf s o (length out) (length work)
     unfolding extract.extractionOf
     refused-answer = rw (← e) (sym (on-sheet-refused (λ l. extract.extraction (filters (nodeAt s l) (depths s l) (l .root) o) (pageOf s l) o (length out) (length work)) Refused v k))
@@ -62,7 +62,7 @@ module _ (s : Bytes) (o : ExtractOptions) (out work : Bytes) where
   header-answers {v} e k = let h = e ∙ header-refuses 8 s (ap isSheet (sym e) ∙ k) in (refused-answer h k, refused-out h k, refused-work h k)
 
   module _ {l : Layout} {r : Extraction} {out′ work′ : Bytes} (h : headerOf 8 s ≡ Sheet l) (x : Answers s l o out work r out′ work′) where
-    judges : judged s l ≡ verdictOf 8 s
+    judges : judged s l ≡ verdict s
     judges = header-passes 8 s (lit≤ tt) h .1
 
     sheet : isSheet (judged s l) ≡ true → judged s l ≡ Sheet l

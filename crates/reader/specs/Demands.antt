@@ -15,7 +15,7 @@ use Rattle.html2text.specs.Extract.{concluded, workNeedOf, serialized, numbers}
 use Rattle.html2text.specs.Walk.{loopFrom}
 use Rattle.html2text.specs.declared.Extraction.{Extraction}
 use Rattle.options.specs.declared.ExtractOptions.{ExtractOptions}
-use Rattle.sheet.specs.Verdict.{verdictOf}
+use Rattle.sheet.specs.Verdict.{verdict}
 use Rattle.sheet.specs.declared.line.Layout.{Layout}
 use Rattle.sheet.specs.declared.verdict.Verdict.the-variants.{Sheet}
 use Rattle.tree.specs.Page.{Page, pageOf}
@@ -68,7 +68,7 @@ pub record AsTheRust (s : Bytes) (l : Layout) (o : ExtractOptions) : Type 0 wher
       ≡ rustLoop (pageOf s l) o
 
 pub record Demand2 : Type 0 where
-  pub rust : (s : Bytes) (l : Layout) (o : ExtractOptions) → verdictOf 8 s ≡ Sheet l → AsTheRust s l o
+  pub rust : (s : Bytes) (l : Layout) (o : ExtractOptions) → verdict s ≡ Sheet l → AsTheRust s l o
   -- "Tree order, text content and UTF-8 are proved against WHATWG DOM and RFC 3629": of the page of every accepted sheet
   pub standards : SheetIsTree
   -- and the text that is given is UTF-8

@@ -4,69 +4,33 @@ use mathlib.Core.Bool.{Bool, true, false, _&&_, _||_, not, cond}
 use mathlib.Core.List.{[], _∷_}
 use mathlib.Core.Logic.{_⊎_, inl, inr}
 use mathlib.Core.Option.{Option, none, some}
-use Prim.Native.Nat.{ℕ, zero, suc, _+_, _*_, _^_, _≤_, _<_}
-use native.Mathlib.Nat.{mul-le-mul-right, suc-mul}
+use Prim.Native.Nat.{ℕ, zero, suc, _+_, _≤_}
 use native.Mathlib.Omega.{arith}
 use denote.Enum.Declared.{tagOf}
 use types.Run.{OneOf, miss}
 use lib.Dec.{leb, ltb, eqb}
-use lib.ListN.{length, getD, take, drop}
-use borrow.Author.Tests.{leb-true, eqb-true, eqb-false, eq-eqb, ne-eqb, not-false, ltb-false}
+use lib.ListN.{length}
+use borrow.Author.Tests.{leb-true, eqb-true, eq-eqb, ne-eqb}
 use Rattle.common.specs.Bytes.{Bytes, codes, same}
 use Rattle.common.proofs.Choice.{by-test, absurd-test, and-parts}
 use Rattle.common.proofs.Equality.{same-true}
-use Rattle.common.proofs.Parts.{part-length}
 use Rattle.utf8.specs.Valid.{valid}
-use Rattle.sheet.specs.Accepted.{Line, KindOf, Text, Later, Accepted}
+use Rattle.sheet.specs.Accepted.{KindOf, Text, Later, Accepted}
 use Rattle.sheet.specs.Column.{parentOf}
-use Rattle.sheet.specs.Columns.{columns, fieldOf}
-use Rattle.sheet.specs.Layout.{headerLength, sizeOf, layoutOf, nodeLength, attributeLength, nodeStart, attributeStart, rowAt, attributeAt, range, depths}
-use Rattle.sheet.specs.Lines.{isNumber, fieldAt, numbersRight, after, lineRight, quadFrom}
+use Rattle.sheet.specs.Layout.{headerLength, sizeOf, layoutOf, rowAt, attributeAt, range, depths}
+use Rattle.sheet.specs.Lines.{lineRight, quadFrom}
 use Rattle.sheet.specs.Notes.{Sized}
-use Rattle.sheet.specs.Verdict.{firstWrong, stage, countsRight, kindRight, inside, bodyRight, isElement, textRight, nodes, attributes, nodeFormat, attributeFormat, nodeKind, nodeTree, nodeRange, attributeRange, nodeText, attributeText, countsFrom, judged, verdictOf, headerOf, isSheet}
-use Rattle.sheet.specs.declared.field.Field.{Field}
-use Rattle.sheet.specs.declared.field.Field.the-variants.{Number, Bad}
+use Rattle.sheet.specs.Verdict.{stage, countsRight, kindRight, inside, bodyRight, isElement, textRight, nodes, attributes, nodeFormat, attributeFormat, nodeKind, nodeTree, nodeRange, attributeRange, nodeText, attributeText, countsFrom, judged, verdictOf, headerOf, isSheet}
 use Rattle.sheet.specs.declared.line.Layout.{Layout}
 use Rattle.sheet.specs.declared.line.Row.{Row}
 use Rattle.sheet.specs.declared.verdict.Verdict.{Verdict}
 use Rattle.sheet.specs.declared.verdict.Verdict.the-variants.{Sheet, Length, Format, Counts, Kind, Tree, Range, Encoding}
 use Rattle.sheet.proofs.verdict.Verdict.{the-type}
-use Rattle.sheet.proofs.ColumnsLaws.{reads-back}
 use Rattle.sheet.proofs.FirstWrong.{all-right}
 use Rattle.sheet.proofs.Header.{counted}
-use Rattle.sheet.proofs.LayoutLaws.{node-fits, attribute-fits}
 use Rattle.sheet.proofs.Parents.{later}
 
 -- ---- each stage's test says its sentence
-
-number-of : (f : Field) → isNumber f ≡ true → (n : ℕ) × (f ≡ Number n)
-number-of (Number n) e = (n, refl)
-number-of Bad e = absurd-test e refl
-
-after-is : (w at k : ℕ) → after w at k ≡ at + k * w
-after-is w at zero = omega arith
-after-is w at (suc k) = after-is w (at + w) k ∙ omega arith
-
-module _ (w : ℕ) (s : Bytes) where
-  numbers : (at k : ℕ) → numbersRight w s at k ≡ true → (i : ℕ) → i < k → isNumber (fieldAt w s (at + i * w)) ≡ true
-  numbers at zero e i h = absurd (omega arith)
-  numbers at (suc k) e zero h = let z : at + 0 * w ≡ at = omega arith in ap (λ (p : ℕ). isNumber (fieldAt w s p)) z ∙ and-parts (isNumber (fieldAt w s at)) (numbersRight w s (at + w) k) e .0
-  numbers at (suc k) e (suc i) h =
-      let z : at + suc i * w ≡ at + w + i * w = omega arith in
-      ap (λ (p : ℕ). isNumber (fieldAt w s p)) z ∙ numbers (at + w) k (and-parts (isNumber (fieldAt w s at)) (numbersRight w s (at + w) k) e .1) i (omega arith)
-
-  line : (at k : ℕ) → at + k * w ≤ length s → lineRight w s at k ≡ true → Line w s at k
-  unfolding fieldAt
-  line at k fits e =
-      let p = and-parts (eqb (getD s (after w at k) 0) 10) (numbersRight w s at k) e in
-      record {
-        number = λ i h.
-            let f = number-of (fieldAt w s (at + i * w)) (numbers at k (p .1) i h) in
-            let c = reads-back (take w (drop (at + i * w) s)) (f .0) .0 (f .1) in
-            let long = part-length s (at + i * w) w (omega (arith, mul-le-mul-right w h, suc-mul i w)) in
-            record { value = f .0; written = c .0 ∙ ap (λ (v : ℕ). columns v (f .0)) long; fits = subst (λ (v : ℕ). f .0 < 10 ^ v) long (c .2) };
-        end = ap (λ (p : ℕ). getD s p 0) (sym (after-is w at k)) ∙ eqb-true (getD s (after w at k) 0) 10 (p .0);
-      }
 
 -- the listed kinds
 listed-kind : (k : ℕ) → (eqb k 1 || (eqb k 3 || eqb k 8)) ≡ true → (k ≡ 1) ⊎ ((k ≡ 3) ⊎ (k ≡ 8))
@@ -236,7 +200,7 @@ module _ (s : Bytes) (l : Layout) where
 
   module _ (sized : Sized s l) {accepted : Layout} (e : judged s l ≡ Sheet accepted) where
     pub judged-accepts : (l ≡ accepted) × Accepted s l
-    unfolding nodeFormat attributeFormat nodeKind nodeText attributeText
+    unfolding nodeKind nodeText attributeText
     judged-accepts =
         let stages = judged-stages e in
         let g = stages .1 in
@@ -244,8 +208,14 @@ module _ (s : Bytes) (l : Layout) where
           stages .0,
           record {
             sized = sized;
-            node-line = λ i h. line (l .width) s (nodeStart l i) 8 (omega (arith, node-fits sized i h)) (all-right (nodeFormat s l) (l .nodes) (g .node-formats) i h);
-            attribute-line = λ j h. line (l .width) s (attributeStart l j) 4 (omega (arith, attribute-fits sized j h)) (all-right (attributeFormat s l) (l .attributes) (g .attribute-formats) j h);
+            lined =
+                record {
+                  width = sized .width;
+                  header = sized .header;
+                  layout = sized .layout;
+                  size = sized .size;
+                  formats = record { of-nodes = g .node-formats; of-attributes = g .attribute-formats };
+                };
             kind = λ i h. kind-of (rowAt s l i) (all-right (nodeKind s l) (l .nodes) (g .kinds) i h);
             body-depth = body .depth;
             body-element = body .element;
@@ -317,7 +287,7 @@ module _ (w : ℕ) (s : Bytes) where
         let lines = cond-sheet (eqb (length s) (sizeOf k)) (Length (sizeOf k)) (Sheet k) refl (long .1) in
         let n = counted k (long .0) in
         let sized : Sized s k =
-        record { width = width; some-node = n .some-node; nodes = n .nodes; attributes = n .attributes; pool = n .pool; root = n .root; size = eqb-true (length s) (sizeOf k) (lines .0) } in
+        record { width = width; some-node = n .some-node; nodes = n .nodes; attributes = n .attributes; pool = n .pool; root = n .root; header = counts .0; layout = refl; size = eqb-true (length s) (sizeOf k) (lines .0) } in
         let same : k ≡ l = sheet-is (lines .1) in
         let judges : judged s k ≡ tested w s (judged s k) = rw (header .0, counts .0, long .0, lines .0) in
         (subst (Sized s) same sized, ap (judged s) (sym same) ∙ judges, ap (λ (x : Layout). x .width) (sym same))

@@ -26,6 +26,7 @@ use Rattle.sheet.specs.declared.notes.AttributeNotes.{AttributeNotes}
 use Rattle.sheet.specs.declared.notes.AttributesRead.the-variants.{Noted, Bad}
 use Rattle.sheet.proofs.Acceptance.{Stages, judged-stages, stages-judged, judged-accepts, sheet-of, kind-of, text-of, depth-of}
 use Rattle.sheet.proofs.FirstWrong.{all-right, none-wrong}
+use Rattle.sheet.proofs.LayoutLaws.{row-there}
 use Rattle.sheet.proofs.Judging.{attributes-noted, attributes-bad-at}
 use Rattle.sheet.proofs.NodePass.{line-numbers, line-bad}
 use Rattle.sheet.proofs.Parents.{tree-test}
@@ -188,8 +189,7 @@ module _ (s : Bytes) (l : Layout) where
 
     module _ {r : Row} (e : nodeLineOf (l .width) s at ≡ NodeLine.the-variants.Numbers r) where
       pub row-is : r ≡ rowAt s l i
-      unfolding rowAt
-      row-is = line-numbers (l .width) s at e .1 ∙ ap (rowFrom (l .width) s) (p .place)
+      row-is = line-numbers (l .width) s at e .1 ∙ ap (rowFrom (l .width) s) (p .place) ∙ sym (row-there s l i h)
 
       pub row-tests : rowRight s l i before r ≡ (nodeKind s l i && (nodeTree s l i && nodeText s l i))
       unfolding rowRight nodeKind nodeText

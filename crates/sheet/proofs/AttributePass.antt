@@ -19,6 +19,7 @@ use Rattle.sheet.specs.declared.notes.AttributeNotes.{AttributeNotes}
 use Rattle.sheet.specs.declared.notes.AttributesRead.the-variants.{Noted, Bad}
 use Rattle.sheet.specs.declared.verdict.Found.{Found}
 use Rattle.sheet.specs.declared.verdict.Found.the-variants.{At, Nothing}
+use Rattle.sheet.proofs.LayoutLaws.{attribute-there}
 use Rattle.sheet.proofs.FirstWrong.{Noting, first-right, first-wrong, first-end, noting-start, noting-more, noting-end, noted-as}
 
 module _ (s : Bytes) (l : Layout) (n : AttributeNotes) (j : ℕ) (q : Quad) where
@@ -75,7 +76,7 @@ module _ (s : Bytes) (l : Layout) where
 
     pub attributes-more : {q : Quad} {next : AttributeNotes} {then : ℕ} → shortLineOf (l .width) s at ≡ Four.the-variants.Numbers q → next ≡ noteAttribute s l n j q
         → then ≡ at + attributeLength (l .width) → Attributes next then (j + 1)
-    unfolding noteAttribute attributeRange attributeText attributeAt
+    unfolding noteAttribute attributeRange attributeText
     attributes-more {q} {next} {then} e f t =
         let x = short-numbers (l .width) s at e in
         rw (f, x .1 ∙ ap (quadFrom (l .width) s) (p .place))
@@ -83,8 +84,8 @@ module _ (s : Bytes) (l : Layout) where
           within = omega arith;
           place = omega (arith, t, p .place);
           format = sym (first-right (attributeFormat s l) (l .attributes) j h (format-at true (x .0))) ∙ p .format;
-          range = noting-more h (λ u. refl) (p .range);
-          encoding = noting-more h (λ u. refl) (p .encoding);
+          range = noting-more h (λ u. rw (attribute-there s l j h)) (p .range);
+          encoding = noting-more h (λ u. rw (attribute-there s l j h)) (p .encoding);
         })
 
   pub attributes-end : {n : AttributeNotes} {at j : ℕ} → Attributes n at j → l .attributes ≤ j → Noted n ≡ attributesRead s l

@@ -7,10 +7,11 @@ use native.Mathlib.Nat.{mul-le-mul-left, pow-le-pow-right}
 use native.Mathlib.Omega.{arith}
 use lib.Dec.{lit<}
 use lib.ListN.{length, getD, take, drop, length-take}
+use borrow.Author.Tests.{lt-ltb}
 use Rattle.common.specs.Bytes.{Bytes}
 use Rattle.sheet.specs.Columns.{fieldOf}
-use Rattle.sheet.specs.Layout.{nodeLength, attributeLength, nodeStart, attributeStart, poolStart, sizeOf, rowAt, depthsFrom, depths}
-use Rattle.sheet.specs.Lines.{fieldAt, numberIn, numberAt}
+use Rattle.sheet.specs.Layout.{nodeLength, attributeLength, nodeStart, attributeStart, poolStart, sizeOf, rowAt, attributeAt, depthsFrom, depths}
+use Rattle.sheet.specs.Lines.{fieldAt, numberIn, numberAt, rowFrom, attributeFrom}
 use Rattle.sheet.specs.Notes.{Sized}
 use Rattle.sheet.specs.declared.field.Field.{Field}
 use Rattle.sheet.specs.declared.field.Field.the-variants.{Number, Bad}
@@ -26,6 +27,16 @@ module _ {s : Bytes} {l : Layout} (sized : Sized s l) where
 
   pub pool-start : length s - l .pool ≡ poolStart l
   pool-start = omega (arith, sized .size)
+
+-- the numbers of a row and of an attribute that are there
+module _ (s : Bytes) (l : Layout) where
+  pub row-there : (i : ℕ) → i < l .nodes → rowAt s l i ≡ rowFrom (l .width) s (nodeStart l i)
+  unfolding rowAt
+  row-there i h = rw (lt-ltb i (l .nodes) h)
+
+  pub attribute-there : (j : ℕ) → j < l .attributes → attributeAt s l j ≡ attributeFrom (l .width) s (attributeStart l j)
+  unfolding attributeAt
+  attribute-there j h = rw (lt-ltb j (l .attributes) h)
 
 -- a number in w columns is below 10 ^ w
 small-in : (f : Field) (k : ℕ) → 0 < k → ((n : ℕ) → f ≡ Number n → n < k) → numberIn f < k

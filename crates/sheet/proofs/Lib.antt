@@ -9,6 +9,7 @@ pub mod Header
 pub mod Judging
 pub mod LayoutLaws
 pub mod LineLaws
+pub mod LinedLaws
 pub mod NodePass
 pub mod NumberLaws
 pub mod Parents

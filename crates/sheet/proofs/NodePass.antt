@@ -22,7 +22,7 @@ use Rattle.sheet.specs.declared.notes.NodesRead.the-variants.{Noted, Bad
 use Rattle.sheet.specs.declared.verdict.Found.{Found}
 use Rattle.sheet.specs.declared.verdict.Found.the-variants.{At, Nothing}
 use Rattle.sheet.proofs.FirstWrong.{Noting, first-right, first-wrong, first-end, noting-start, noting-more, noting-end, noted-as}
-use Rattle.sheet.proofs.LayoutLaws.{number-below}
+use Rattle.sheet.proofs.LayoutLaws.{number-below, row-there}
 use Rattle.sheet.proofs.Parents.{tree-test}
 
 module _ (s : Bytes) (l : Layout) (n : Notes) (i : ℕ) (before r : Row) where
@@ -89,8 +89,7 @@ module _ (s : Bytes) (l : Layout) where
 
   module _ (sized : Sized s l) {n : Notes} {before : Row} {at i : ℕ} (p : Nodes n before at i) (h : i < l .nodes) where
     pub node-row : {r : Row} → nodeLineOf (l .width) s at ≡ NodeLine.the-variants.Numbers r → r ≡ rowAt s l i
-    unfolding rowAt
-    node-row e = line-numbers (l .width) s at e .1 ∙ ap (rowFrom (l .width) s) (p .place)
+    node-row e = line-numbers (l .width) s at e .1 ∙ ap (rowFrom (l .width) s) (p .place) ∙ sym (row-there s l i h)
 
     format-right : {r : Row} → nodeLineOf (l .width) s at ≡ NodeLine.the-variants.Numbers r → nodeFormat s l i ≡ true
     unfolding nodeFormat
@@ -109,8 +108,7 @@ module _ (s : Bytes) (l : Layout) where
     counts-more = let e : l .nodes - i ≡ suc (l .nodes - (i + 1)) = omega arith in rw (e, add-one)
 
     pub count-small : {r : Row} → nodeLineOf (l .width) s at ≡ NodeLine.the-variants.Numbers r → r .attributes < 10 ^ 10
-    unfolding rowAt
-    count-small e = rw (node-row e) (number-below (l .width) s _ (sized .width))
+    count-small e = rw (node-row e, row-there s l i h) (number-below (l .width) s _ (sized .width))
 
     pub nodes-more : {r : Row} {next : Notes} {then : ℕ} → nodeLineOf (l .width) s at ≡ NodeLine.the-variants.Numbers r → next ≡ noteRow s l n i before r → then ≡ at + nodeLength (l .width) → Nodes next r then (i + 1)
     unfolding noteRow nodeKind nodeRange nodeText

@@ -12,7 +12,7 @@ use Rattle.common.specs.Bytes.{Bytes}
 use Rattle.common.proofs.Choice.{by-cond}
 use Rattle.sheet.specs.Layout.{headerLength, layoutOf, sizeOf, rowAt}
 use Rattle.sheet.specs.Lines.{lineRight, quadFrom}
-use Rattle.sheet.specs.Verdict.{firstWrong, stage, countsRight, nodes, attributes, nodeFormat, attributeFormat, nodeKind, nodeTree, nodeRange, attributeRange, nodeText, attributeText, countsFrom, judged, verdictOf, numbers}
+use Rattle.sheet.specs.Verdict.{firstWrong, stage, countsRight, nodes, attributes, nodeFormat, attributeFormat, nodeKind, nodeTree, nodeRange, attributeRange, nodeText, attributeText, countsFrom, judged, verdictOf, numbers, verdict}
 use Rattle.sheet.specs.declared.line.Layout.{Layout}
 use Rattle.sheet.specs.declared.verdict.Verdict.{Verdict}
 use Rattle.sheet.specs.declared.verdict.Verdict.the-variants.{Sheet, Length, Format, Counts, Kind, Tree, Range, Encoding}
@@ -68,7 +68,7 @@ module _ (s : Bytes) (l : Layout) (c : Counted l) where
       (by-stage Low (attributes s l (attributeText s l)) (λ j e. low (Encoding _) refl (omega arith) (attribute-line (attributeText s l) j e))
       (low (Sheet l) {k = 0} {n = 0} refl (omega arith) (omega arith)))))))))))
 
-pub verdict-low : (s : Bytes) → Low (verdictOf 8 s)
+pub verdict-low : (s : Bytes) → Low (verdict s)
 unfolding verdictOf
 verdict-low s =
     let l = layoutOf 8 (quadFrom 8 s 0) in

@@ -9,8 +9,8 @@ use Rattle.common.specs.Bytes.{Bytes, codes}
 use Rattle.utf8.specs.Valid.{valid}
 use Rattle.sheet.specs.Column.{parentOf}
 use Rattle.sheet.specs.Columns.{InColumns}
-use Rattle.sheet.specs.Layout.{nodeStart, attributeStart, rowAt, attributeAt, range, depths}
-use Rattle.sheet.specs.Notes.{Sized}
+use Rattle.sheet.specs.Layout.{rowAt, attributeAt, range, depths}
+use Rattle.sheet.specs.Notes.{Sized, Lined}
 use Rattle.sheet.specs.Verdict.{countsFrom}
 use Rattle.sheet.specs.declared.line.Layout.{Layout}
 use Rattle.sheet.specs.declared.line.Row.{Row}
@@ -41,8 +41,7 @@ module _ (s : Bytes) (l : Layout) where
 
   pub record Accepted : Type 0 where
     pub sized : Sized s l
-    pub node-line : (i : ℕ) → i < l .nodes → Line (l .width) s (nodeStart l i) 8
-    pub attribute-line : (j : ℕ) → j < l .attributes → Line (l .width) s (attributeStart l j) 4
+    pub lined : Lined s l
     pub kind : (i : ℕ) → i < l .nodes → KindOf (rowAt s l i)
     pub body-depth : rowAt s l 0 .depth ≡ 0
     pub body-element : rowAt s l 0 .kind ≡ 1

@@ -1,6 +1,8 @@
 -- Where the lines of a sheet stand (document 01, "The sheet"): header, node lines, attribute lines, pool.
+use mathlib.Core.Bool.{cond}
 use mathlib.Core.List.{List, [], _∷_}
 use Prim.Native.Nat.{ℕ, zero, suc, _+_, _*_}
+use lib.Dec.{ltb}
 use lib.ListN.{take, drop}
 use Rattle.common.specs.Bytes.{Bytes}
 use Rattle.sheet.specs.Lines.{quadFrom, rowFrom, attributeFrom}
@@ -32,16 +34,27 @@ poolStart l = attributeStart l (l .attributes)
 abbrev pub sizeOf : Layout → ℕ
 sizeOf l = poolStart l + l .pool
 
+-- "P to 4,194,304", at every width
+abbrev pub poolLimit : ℕ → ℕ
+poolLimit w = 4194304
+
 -- "nodes N, attributes A, pool bytes P, chosen root row"
 abbrev pub layoutOf : ℕ → Quad → Layout
 layoutOf w q = record { width = w; nodes = q .first; attributes = q .second; pool = q .third; root = q .fourth }
 
+-- what stands past the last row, and past the last attribute
+abbrev pub noRow : Row
+noRow = record { depth = 0; kind = 0; skip = 0; «name_at» = 0; «name_len» = 0; «value_at» = 0; «value_len» = 0; attributes = 0 }
+
+abbrev pub noAttribute : Attribute
+noAttribute = record { «name_at» = 0; «name_len» = 0; «value_at» = 0; «value_len» = 0 }
+
 module _ (s : Bytes) (l : Layout) where
   unfoldable pub rowAt : ℕ → Row
-  rowAt i = rowFrom (l .width) s (nodeStart l i)
+  rowAt i = cond (ltb i (l .nodes)) (rowFrom (l .width) s (nodeStart l i)) noRow
 
   unfoldable pub attributeAt : ℕ → Attribute
-  attributeAt j = attributeFrom (l .width) s (attributeStart l j)
+  attributeAt j = cond (ltb j (l .attributes)) (attributeFrom (l .width) s (attributeStart l j)) noAttribute
 
   -- a range of the pool: "At" counts from its start
   abbrev pub range : ℕ → ℕ → Bytes

@@ -7,8 +7,8 @@ use lib.Dec.{leb, eqb}
 use lib.ListN.{length, drop}
 use Rattle.common.specs.Bytes.{Bytes}
 use Rattle.utf8.specs.Valid.{valid}
-use Rattle.sheet.specs.Layout.{poolStart, sizeOf, rowAt}
-use Rattle.sheet.specs.Lines.{nodeLineOf}
+use Rattle.sheet.specs.Layout.{poolStart, sizeOf, poolLimit, layoutOf, rowAt}
+use Rattle.sheet.specs.Lines.{lineRight, quadFrom, nodeLineOf}
 use Rattle.sheet.specs.Verdict.{inside, kindRight, bodyRight, textRight, nodes, nodeFormat, nodeKind, nodeTree, nodeRange, nodeText, countsFrom, attributes, attributeFormat, attributeRange, attributeText}
 use Rattle.sheet.specs.declared.line.Layout.{Layout}
 use Rattle.sheet.specs.declared.line.NodeLine.{NodeLine}
@@ -43,8 +43,10 @@ pub record Sized (s : Bytes) (l : Layout) : Type 0 where
   pub some-node : 1 ≤ l .nodes
   pub nodes : l .nodes ≤ 20000
   pub attributes : l .attributes ≤ 60000
-  pub pool : l .pool ≤ 4194304
+  pub pool : l .pool ≤ poolLimit (l .width)
   pub root : l .root < l .nodes
+  pub header : lineRight (l .width) s 0 4 ≡ true
+  pub layout : l ≡ layoutOf (l .width) (quadFrom (l .width) s 0)
   pub size : length s ≡ sizeOf l
 
 -- where `whole`, the pool is UTF-8 as a whole
@@ -130,6 +132,14 @@ attributesRead s l =
 pub record Formatted (s : Bytes) (l : Layout) : Type 0 where
   pub of-nodes : nodes s l (nodeFormat s l) ≡ none
   pub of-attributes : attributes s l (attributeFormat s l) ≡ none
+
+-- right lines and length, whatever the numbers say: 11 and 12 do not refuse s
+pub record Lined (s : Bytes) (l : Layout) : Type 0 where
+  pub width : l .width ≤ 10
+  pub header : lineRight (l .width) s 0 4 ≡ true
+  pub layout : l ≡ layoutOf (l .width) (quadFrom (l .width) s 0)
+  pub size : length s ≡ sizeOf l
+  pub formats : Formatted s l
 
 abbrev pub isNone : Option ℕ → Bool
 isNone none = true

@@ -8,7 +8,7 @@ use Rattle.common.specs.Answer.{Answer, refused, written}
 use Rattle.common.specs.Bytes.{Bytes, codes, same}
 use Rattle.utf8.specs.Valid.{valid}
 use Rattle.sheet.specs.Column.{parentOf}
-use Rattle.sheet.specs.Layout.{headerLength, nodeStart, attributeStart, sizeOf, layoutOf, rowAt, attributeAt, range, depths}
+use Rattle.sheet.specs.Layout.{headerLength, nodeStart, attributeStart, sizeOf, poolLimit, layoutOf, rowAt, attributeAt, range, depths}
 use Rattle.sheet.specs.Lines.{lineRight, quadFrom}
 use Rattle.sheet.specs.declared.line.Attribute.{Attribute}
 use Rattle.sheet.specs.declared.line.Layout.{Layout}
@@ -28,7 +28,7 @@ stage none refuse next = next
 
 -- "N 1 to 20,000; A to 60,000; P to 4,194,304", and "root not below N"
 unfoldable pub countsRight : Layout → Bool
-countsRight l = leb 1 (l .nodes) && (leb (l .nodes) 20000 && (leb (l .attributes) 60000 && (leb (l .pool) 4194304 && ltb (l .root) (l .nodes))))
+countsRight l = leb 1 (l .nodes) && (leb (l .nodes) 20000 && (leb (l .attributes) 60000 && (leb (l .pool) (poolLimit (l .width)) && ltb (l .root) (l .nodes))))
 
 -- "kind or skip not listed; a non-element with a name or attributes (length or count not 0); an element with a value length not 0"
 unfoldable pub kindRight : Row → Bool
@@ -138,6 +138,10 @@ verdictOf w s =
     -- "Then 11 again: length is not 33 + 65·N + 33·A + P (second number: that sum)"
     (cond (not (eqb (length s) (sizeOf l))) (Length (sizeOf l))
     (judged s l))))
+
+-- the verdict on a byte string: a sheet's numbers stand "in 8 columns"
+abbrev pub verdict : Bytes → Verdict
+verdict s = verdictOf 8 s
 
 -- the same up to the lines: the layout, where the header is right and the length is what it says
 unfoldable pub headerOf : ℕ → Bytes → Verdict

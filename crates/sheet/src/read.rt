@@ -1,4 +1,4 @@
-// Readers of an accepted sheet.
+// Readers of a sheet whose lines are right.
 use crate::line::Attribute;
 use crate::line::Layout;
 use crate::line::Quad;
@@ -7,10 +7,10 @@ use crate::line::row_of;
 ghost use mathlib.Core.Path.{_≡_};
 ghost use Prim.Native.Nat.{ℕ, _+_, _*_, _<_, _≤_};
 ghost use lib.ListN.{length};
-ghost use Rattle.sheet.specs.Accepted.{Accepted};
 ghost use Rattle.sheet.specs.Columns.{InColumns};
 ghost use Rattle.sheet.specs.Layout.{attributeAt, range, rowAt};
 ghost use Rattle.sheet.specs.Lines.{attributeOf, numberAt, quadFrom};
+ghost use Rattle.sheet.specs.Notes.{Lined};
 
 // The number in the eight columns at at: the last four bits of a space are 0, those of a digit its value.
 fn eight_at(s: &[u8], at: usize) -> usize
@@ -83,7 +83,7 @@ fn quad_at(s: &[u8], at: usize, width: usize) -> Quad
 
 // The numbers of row i.
 pub fn row_at(s: &[u8], l: Layout, i: usize) -> Row
-    requires { ⌜ Accepted (now s) l × (i < l .nodes) ⌝ }
+    requires { ⌜ Lined (now s) l × (i < l .nodes) ⌝ }
     ensures { λ r. ⌜ r ≡ rowAt (now (s .entry)) l i ⌝ }
 {
     let width = l.width;
@@ -105,7 +105,7 @@ fn attribute_of(x: Quad) -> Attribute
 
 // The numbers of attribute line j.
 pub fn attribute_at(s: &[u8], l: Layout, j: usize) -> Attribute
-    requires { ⌜ Accepted (now s) l × (j < l .attributes) ⌝ }
+    requires { ⌜ Lined (now s) l × (j < l .attributes) ⌝ }
     ensures { λ r. ⌜ r ≡ attributeAt (now (s .entry)) l j ⌝ }
 {
     let width = l.width;
@@ -115,7 +115,7 @@ pub fn attribute_at(s: &[u8], l: Layout, j: usize) -> Attribute
 
 // The depth of row i.
 pub fn depth_at(s: &[u8], l: Layout, i: usize) -> usize
-    requires { ⌜ Accepted (now s) l × (i < l .nodes) ⌝ }
+    requires { ⌜ Lined (now s) l × (i < l .nodes) ⌝ }
     ensures { λ r. ⌜ r ≡ rowAt (now (s .entry)) l i .depth ⌝ }
 {
     let width = l.width;
@@ -124,7 +124,7 @@ pub fn depth_at(s: &[u8], l: Layout, i: usize) -> usize
 
 // A range of the pool.
 pub fn part(s: &[u8], l: Layout, at: usize, len: usize) -> &[u8]
-    requires { ⌜ Accepted (now s) l × (at + len ≤ l .pool) ⌝ }
+    requires { ⌜ Lined (now s) l × (at + len ≤ l .pool) ⌝ }
     ensures { λ r. ⌜ now r ≡ range (now (s .entry)) l at len ⌝ }
 {
     let from = s.len() - l.pool + at;

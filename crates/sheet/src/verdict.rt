@@ -16,10 +16,10 @@ ghost use mathlib.Core.Path.{_≡_};
 ghost use Prim.Native.Nat.{_+_, _<_, _≤_};
 ghost use lib.ListN.{drop, length};
 ghost use Rattle.utf8.specs.Valid.{valid};
-ghost use Rattle.sheet.specs.Layout.{poolStart, rowAt, sizeOf};
+ghost use Rattle.sheet.specs.Layout.{poolLimit, poolStart, rowAt, sizeOf};
 ghost use Rattle.sheet.specs.Lines.{numberAt};
 ghost use Rattle.sheet.specs.Notes.{Formatted, Sized, Whole, attributesNotes, attributesRight, isNothing, nodesNotes, restRight};
-ghost use Rattle.sheet.specs.Verdict.{countsRight, headerOf, judged, nodeFormat, nodes, numbers, verdictOf};
+ghost use Rattle.sheet.specs.Verdict.{countsRight, headerOf, judged, nodeFormat, nodes, numbers, verdict, verdictOf};
 
 // A row, or none.
 pub enum Found {
@@ -183,7 +183,7 @@ fn counts_right(l: Layout) -> bool
 }
 
 fn size_of(l: Layout) -> usize
-    requires { ⌜ (l .width ≤ 10) × (l .nodes ≤ 20000) × (l .attributes ≤ 60000) × (l .pool ≤ 4194304) ⌝ }
+    requires { ⌜ (l .width ≤ 10) × (l .nodes ≤ 20000) × (l .attributes ≤ 60000) × (l .pool ≤ poolLimit (l .width)) ⌝ }
     ensures { λ x. ⌜ x ≡ sizeOf l ⌝ }
 {
     let width = l.width;
@@ -242,8 +242,8 @@ pub fn check_in(s: &[u8], width: usize) -> Verdict
 
 // The verdict on a sheet: its numbers have 8 columns.
 pub fn check(s: &[u8]) -> Verdict
-    ensures answer { λ x. ⌜ x ≡ verdictOf 8 (now (s .entry)) ⌝ }
-    ensures said { λ x. ⌜ numbers x ≡ numbers (verdictOf 8 (now (s .entry))) ⌝ }
+    ensures answer { λ x. ⌜ x ≡ verdict (now (s .entry)) ⌝ }
+    ensures said { λ x. ⌜ numbers x ≡ numbers (verdict (now (s .entry))) ⌝ }
 {
     check_in(s, 8)
 }

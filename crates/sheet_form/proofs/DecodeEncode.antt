@@ -3,18 +3,22 @@ use mathlib.Core.Path.{_≡_, refl, sym, ap, _∙_}
 use mathlib.Core.List.{List, _++_}
 use Prim.Native.Nat.{ℕ, _+_, _*_, _<_}
 use native.Mathlib.Omega.{arith}
-use lib.ListN.{length, getD, take, drop, length-append}
+use lib.Dec.{ltb}
+use lib.ListN.{length, getD, take, drop, length-append, List·getD-eq-default}
 use lib.Seq.{drop-drop, drop-append-add}
+use borrow.Author.Tests.{ltb-true, ltb-false}
 use Rattle.common.specs.Bytes.{Bytes}
-use Rattle.sheet.specs.Layout.{nodeStart, attributeStart, poolStart, sizeOf, layoutOf, rowAt, attributeAt, range}
+use Rattle.common.proofs.Choice.{by-test}
+use Rattle.sheet.specs.Layout.{noRow, noAttribute, nodeStart, attributeStart, poolStart, sizeOf, layoutOf, rowAt, attributeAt, range}
 use Rattle.sheet.specs.Lines.{quadFrom}
+use Rattle.sheet.specs.Notes.{Lined}
 use Rattle.sheet.specs.Verdict.{nodeFormat, attributeFormat}
 use Rattle.sheet.specs.Writing.{line}
 use Rattle.sheet.specs.declared.line.Layout.{Layout}
 use Rattle.sheet.proofs.FirstWrong.{none-wrong}
 use Rattle.sheet.proofs.WritingColumns.{line-length}
-use Rattle.sheet_form.specs.Encoding.{lines, encode, decode, Lined, Fits}
-use Rattle.sheet_form.specs.Decoded.{Decoded, noRow, noAttribute, rowNumbers, attributeNumbers, headerNumbers, rowIn, attributeIn, rangeIn, layoutFor}
+use Rattle.sheet_form.specs.Encoding.{lines, encode, decode, Fits}
+use Rattle.sheet_form.specs.Decoded.{Decoded, rowNumbers, attributeNumbers, headerNumbers, rowIn, attributeIn, rangeIn, layoutFor}
 use Rattle.sheet_form.proofs.LineBack.{Read, line-back, read-right, row-same, attribute-same}
 use Rattle.sheet_form.proofs.Lists.{listed-is, lines-length, lines-at, lines-behind}
 
@@ -81,13 +85,19 @@ module _ (w : ℕ) (d : Decoded) (fits : Fits w d) where
   attribute-read j h =
       let p = attribute-place w d j h in line-back w (fits .some-column) (encode w d) (p .0) (attributeStart (layoutFor w d) j) (fits .attribute j h) (p .1)
 
-  pub row-is : (i : ℕ) → i < length (d .rows) → rowAt (encode w d) (layoutFor w d) i ≡ rowIn d i
+  pub row-is : (i : ℕ) → rowAt (encode w d) (layoutFor w d) i ≡ rowIn d i
   unfolding rowAt
-  row-is i h = row-same _ _ (row-read i h .numbers)
+  row-is i =
+      by-test (ltb i (length (d .rows)))
+      (λ t. rw t (row-same _ _ (row-read i (ltb-true i (length (d .rows)) t) .numbers)))
+      (λ t. rw t (sym (List·getD-eq-default (d .rows) noRow (ltb-false i (length (d .rows)) t))))
 
-  pub attribute-is : (j : ℕ) → j < length (d .attributes) → attributeAt (encode w d) (layoutFor w d) j ≡ attributeIn d j
+  pub attribute-is : (j : ℕ) → attributeAt (encode w d) (layoutFor w d) j ≡ attributeIn d j
   unfolding attributeAt
-  attribute-is j h = attribute-same _ _ (attribute-read j h .numbers)
+  attribute-is j =
+      by-test (ltb j (length (d .attributes)))
+      (λ t. rw t (attribute-same _ _ (attribute-read j (ltb-true j (length (d .attributes)) t) .numbers)))
+      (λ t. rw t (sym (List·getD-eq-default (d .attributes) noAttribute (ltb-false j (length (d .attributes)) t))))
 
   layout-is : layoutFor w d ≡ layoutOf w (quadFrom w (encode w d) 0)
   layout-is = ap ofNumbers (sym (header-read .numbers))
@@ -95,10 +105,11 @@ module _ (w : ℕ) (d : Decoded) (fits : Fits w d) where
       ofNumbers : List ℕ → Layout
       ofNumbers ns = record { width = w; nodes = getD ns 0 0; attributes = getD ns 1 0; pool = getD ns 2 0; root = getD ns 3 0 }
 
-  pub encode-lined : Lined w (encode w d) (layoutFor w d)
+  pub encode-lined : Lined (encode w d) (layoutFor w d)
   unfolding nodeFormat attributeFormat
   encode-lined =
       record {
+        width = fits .most-columns;
         header = read-right w (fits .some-column) (encode w d) header-read;
         layout = layout-is;
         size = encode-length w d;
@@ -112,4 +123,4 @@ module _ (w : ℕ) (d : Decoded) (fits : Fits w d) where
   pub decode-encode : decode (layoutFor w d) (encode w d) ≡ d
   unfolding decode
   decode-encode =
-      rw (listed-is (rowAt (encode w d) (layoutFor w d)) noRow (d .rows) row-is, listed-is (attributeAt (encode w d) (layoutFor w d)) noAttribute (d .attributes) attribute-is, pool-is w d)
+      rw (listed-is (rowAt (encode w d) (layoutFor w d)) noRow (d .rows) (λ i h. row-is i), listed-is (attributeAt (encode w d) (layoutFor w d)) noAttribute (d .attributes) (λ j h. attribute-is j), pool-is w d)

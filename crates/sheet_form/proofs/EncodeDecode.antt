@@ -10,8 +10,9 @@ use lib.ListN.{length, getD, take, drop, length-take, length-drop, take-append-d
 use Rattle.common.specs.Bytes.{Bytes}
 use Rattle.common.proofs.Choice.{absurd-test, and-parts}
 use Rattle.sheet.specs.Columns.{fieldOf}
-use Rattle.sheet.specs.Layout.{nodeStart, attributeStart, poolStart, layoutOf, rowAt, attributeAt}
+use Rattle.sheet.specs.Layout.{noRow, noAttribute, nodeStart, attributeStart, poolStart, layoutOf, rowAt, attributeAt}
 use Rattle.sheet.specs.Lines.{numberIn, fieldAt, numberAt, numbersRight, after, lineRight, quadFrom}
+use Rattle.sheet.specs.Notes.{Lined}
 use Rattle.sheet.specs.Verdict.{nodeFormat, attributeFormat}
 use Rattle.sheet.specs.Writing.{line}
 use Rattle.sheet.specs.declared.field.Field.{Field}
@@ -21,9 +22,10 @@ use Rattle.sheet.specs.declared.line.Layout.{Layout}
 use Rattle.sheet.specs.declared.line.Row.{Row}
 use Rattle.sheet.proofs.ColumnsLaws.{field-below}
 use Rattle.sheet.proofs.FirstWrong.{all-right}
+use Rattle.sheet.proofs.LayoutLaws.{row-there, attribute-there}
 use Rattle.sheet.proofs.ReadingColumns.{ten-positive}
-use Rattle.sheet_form.specs.Decoded.{noRow, noAttribute, rowNumbers, attributeNumbers, headerNumbers, layoutFor}
-use Rattle.sheet_form.specs.Encoding.{lines, encode, listed, decode, Lined, Below, none, some, Fits}
+use Rattle.sheet_form.specs.Decoded.{rowNumbers, attributeNumbers, headerNumbers, layoutFor}
+use Rattle.sheet_form.specs.Encoding.{lines, encode, listed, decode, Below, none, some, Fits}
 use Rattle.sheet_form.specs.Theorems.{OfLined}
 use Rattle.sheet_form.proofs.LineBack.{numbersAt, line-form}
 use Rattle.sheet_form.proofs.Lists.{listed-length, listed-at, lines-form}
@@ -54,16 +56,18 @@ module _ (w : ℕ) (s : Bytes) where
   abbrev l : Layout
   l = layoutOf w (quadFrom w s 0)
 
-  module _ (lined : Lined w s l) where
+  module _ (lined : Lined s l) where
     row-form : (i : ℕ) → i < l .nodes → take (8 * w + 1) (drop (nodeStart l i) s) ≡ line w (rowNumbers (rowAt s l i))
-    unfolding nodeFormat rowAt
+    unfolding nodeFormat
     row-form i h =
-        line-form w s (nodeStart l i) 8 (omega (arith, lined .size, mul-le-mul-left (8 * w + 1) h)) (all-right (nodeFormat s l) (l .nodes) (lined .formats .of-nodes) i h)
+        rw (row-there s l i h)
+        (line-form w s (nodeStart l i) 8 (omega (arith, lined .size, mul-le-mul-left (8 * w + 1) h)) (all-right (nodeFormat s l) (l .nodes) (lined .formats .of-nodes) i h))
 
     attribute-form : (j : ℕ) → j < l .attributes → take (4 * w + 1) (drop (attributeStart l j) s) ≡ line w (attributeNumbers (attributeAt s l j))
-    unfolding attributeFormat attributeAt
+    unfolding attributeFormat
     attribute-form j h =
-        line-form w s (attributeStart l j) 4 (omega (arith, lined .size, mul-le-mul-left (4 * w + 1) h)) (all-right (attributeFormat s l) (l .attributes) (lined .formats .of-attributes) j h)
+        rw (attribute-there s l j h)
+        (line-form w s (attributeStart l j) 4 (omega (arith, lined .size, mul-le-mul-left (4 * w + 1) h)) (all-right (attributeFormat s l) (l .attributes) (lined .formats .of-attributes) j h))
 
     pool-length : length (drop (poolStart l) s) ≡ l .pool
     pool-length = length-drop (poolStart l) s ∙ omega (arith, lined .size)
@@ -99,20 +103,24 @@ module _ (w : ℕ) (s : Bytes) where
         ∙ ap₂ (λ (a b : Bytes). a ++ b) header-form (rows-form ∙ ap (λ (b : Bytes). lines rowNumbers w (listed (rowAt s l) 0 (l .nodes)) ++ b) attributes-form))
 
     numbers-fit : Fits w (decode l s)
-    unfolding decode rowAt attributeAt
+    unfolding decode
     numbers-fit =
         record {
           some-column = some-column w s (lined .header);
+          most-columns = lined .width;
           header = subst (λ (k : Layout). Below (10 ^ w) (headerNumbers k)) (sym layout-is) (numbers-small w s 0 4);
           row = λ i h.
-              let here = listed-at (rowAt s l) noRow (l .nodes) i (omega (arith, listed-length (rowAt s l) 0 (l .nodes))) in
+              let there : i < l .nodes = omega (arith, listed-length (rowAt s l) 0 (l .nodes)) in
+              let here = listed-at (rowAt s l) noRow (l .nodes) i there ∙ row-there s l i there in
               subst (λ (r : Row). Below (10 ^ w) (rowNumbers r)) (sym here) (numbers-small w s (nodeStart l i) 8);
           attribute = λ j h.
-              let here = listed-at (attributeAt s l) noAttribute (l .attributes) j (omega (arith, listed-length (attributeAt s l) 0 (l .attributes))) in
+              let there : j < l .attributes = omega (arith, listed-length (attributeAt s l) 0 (l .attributes)) in
+              let here = listed-at (attributeAt s l) noAttribute (l .attributes) j there ∙ attribute-there s l j there in
               subst (λ (a : Attribute). Below (10 ^ w) (attributeNumbers a)) (sym here) (numbers-small w s (attributeStart l j) 4);
         }
 
-pub of-lined : {w : ℕ} {s : Bytes} {l : Layout} → Lined w s l → OfLined w s l
-of-lined {w} {s} {l} lined =
-    let here = subst (Lined w s) (lined .layout) lined in
-    subst (OfLined w s) (sym (lined .layout)) (record { bytes = bytes-are w s here; layout = layout-is w s here; fits = numbers-fit w s here })
+pub of-lined : {s : Bytes} {l : Layout} → Lined s l → OfLined s l
+of-lined {s} {l} lined =
+    let w = l .width in
+    let here = subst (Lined s) (lined .layout) lined in
+    subst (OfLined s) (sym (lined .layout)) (record { bytes = bytes-are w s here; layout = layout-is w s here; fits = numbers-fit w s here })

@@ -2,19 +2,21 @@
 use mathlib.Core.Path.{_≡_, refl, sym, ap, ap₂, _∙_}
 use mathlib.Core.List.{List, [], _∷_, _++_, append-assoc}
 use Prim.Native.Nat.{ℕ, zero, suc, _+_, _*_, _≤_, _<_}
-use native.Mathlib.Nat.{mul-le-mul-left, mul-le-mul-right}
+use native.Mathlib.Nat.{mul-le-mul-right}
 use native.Mathlib.Omega.{arith}
 use lib.ListN.{length, getD, set, take, drop, length-append, length-set}
 use lib.Seq.{sets, sets-eq, take-at, drop-at, drop-append-add, split-at, set-split, length-take-le}
 use Rattle.common.specs.Bytes.{Bytes}
 use Rattle.sheet.specs.Columns.{columns}
-use Rattle.sheet.specs.Layout.{nodeStart}
+use Rattle.sheet.specs.Layout.{noRow, nodeStart}
+use Rattle.sheet.specs.Notes.{Lined}
 use Rattle.sheet.specs.Writing.{line}
 use Rattle.sheet.specs.declared.line.Layout.{Layout}
 use Rattle.sheet.specs.declared.line.Row.{Row}
+use Rattle.sheet.proofs.LinedLaws.{node-room}
 use Rattle.sheet.proofs.WritingColumns.{columns-length, line-length}
-use Rattle.sheet_form.specs.Decoded.{Decoded, noRow, rowIn, layoutFor, headerNumbers, rowNumbers, attributeNumbers, rowOfNumbers, withNumber, setNumber}
-use Rattle.sheet_form.specs.Encoding.{lines, encode, listed, decode, Lined}
+use Rattle.sheet_form.specs.Decoded.{Decoded, rowIn, layoutFor, headerNumbers, rowNumbers, attributeNumbers, rowOfNumbers, withNumber, setNumber}
+use Rattle.sheet_form.specs.Encoding.{lines, encode, listed, decode}
 use Rattle.sheet_form.proofs.EncodeDecode.{of-lined}
 use Rattle.sheet_form.proofs.Lists.{listed-is, lines-length}
 
@@ -101,12 +103,13 @@ module _ (w : ℕ) (d : Decoded) (i : ℕ) (h : i < length (d .rows)) (k : ℕ) 
       ∙ sym is
       ∙ rw (length-set (d .rows) i r)
 
-pub number-room : {s : Bytes} {l : Layout} → Lined (l .width) s l → (i k : ℕ) → i < l .nodes → k < 8 → nodeStart l i + k * l .width + l .width ≤ length s
-number-room {s} {l} lined i k h small = omega (arith, lined .size, mul-le-mul-left (8 * l .width + 1) h, mul-le-mul-right (l .width) small)
+pub number-place : {s : Bytes} {l : Layout} → Lined s l → (i k : ℕ) → i < l .nodes → k < 8 → nodeStart l i + k * l .width + l .width ≤ length s
+number-place {s} {l} lined i k h small = omega (arith, node-room lined i h, mul-le-mul-right (l .width) small)
 
-pub number-set : {w : ℕ} {s : Bytes} {l : Layout} → Lined w s l → (i k n : ℕ) → i < l .nodes → k < 8
-    → sets s (nodeStart l i + k * w) (columns w n) ≡ encode w (setNumber i k n (decode l s))
-number-set {w} {s} {l} lined i k n h small =
+pub number-set : {s : Bytes} {l : Layout} → Lined s l → (i k n : ℕ) → i < l .nodes → k < 8
+    → sets s (nodeStart l i + k * l .width) (columns (l .width) n) ≡ encode (l .width) (setNumber i k n (decode l s))
+number-set {s} {l} lined i k n h small =
+    let w = l .width in
     let e = of-lined lined .layout in
     let b : i < length (decode l s .rows) = rw (ap (λ (x : Layout). x .nodes) e) h in
     ap₂ (λ (t : Bytes) (x : Layout). sets t (nodeStart x i + k * w) (columns w n)) (sym (of-lined lined .bytes)) (sym e)

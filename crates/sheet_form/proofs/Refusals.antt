@@ -6,10 +6,11 @@ use Prim.Native.Nat.{ℕ, _+_}
 use lib.Dec.{eqb}
 use lib.ListN.{length}
 use Rattle.common.proofs.Choice.{by-test}
+use Rattle.sheet.specs.Layout.{poolLimit}
 use Rattle.sheet.specs.Verdict.{stage, numbers, verdictOf}
 use Rattle.sheet.specs.declared.verdict.Verdict.{Verdict}
 use Rattle.sheet.specs.declared.verdict.Verdict.the-variants.{Sheet, Kind, Tree, Range, Encoding}
-use Rattle.sheet_form.specs.Encoding.{encode, Fits, poolLimit}
+use Rattle.sheet_form.specs.Encoding.{encode, Fits}
 use Rattle.sheet_form.specs.Decoded.{Decoded, countsOf, rowIn, layoutFor}
 use Rattle.sheet_form.specs.Judged.{kindIn, treeIn, rowRangeIn, attributeRangeIn, rowTextIn, attributeTextIn, rowsIn, attributesIn, judgedIn, countsIn, verdictIn}
 use Rattle.sheet_form.proofs.Verdicts.{verdict-encode}

@@ -3,19 +3,19 @@ use mathlib.Core.Path.{_≡_, sym, ap, _∙_, subst}
 use mathlib.Core.Bool.{true, _||_}
 use mathlib.Core.List.{List}
 use mathlib.Core.Logic.{_⊎_, inl, inr}
-use mathlib.Core.Option.{some}
 use Prim.Native.Nat.{ℕ, zero, suc, _+_, _≤_, _<_}
-use native.Mathlib.Omega.{arith}
 use lib.Dec.{eqb}
-use lib.ListN.{length, getD}
+use lib.ListN.{length}
 use borrow.Author.Tests.{le-leb, lt-ltb, eq-eqb, eqb-true, eqb-false}
-use Rattle.common.specs.Bytes.{Bytes, same}
+use Rattle.common.specs.Bytes.{Bytes}
 use Rattle.common.proofs.Choice.{by-test, and-both}
 use Rattle.common.proofs.Equality.{same-of}
 use Rattle.utf8.specs.Valid.{valid}
 use Rattle.sheet.specs.Accepted.{KindOf, Text, Accepted}
-use Rattle.sheet.specs.Column.{lastAbove, parentOf}
-use Rattle.sheet.specs.Layout.{rowAt, attributeAt}
+use Rattle.sheet.specs.Column.{parentOf}
+use Rattle.sheet.specs.Layout.{poolLimit, layoutOf, rowAt, attributeAt}
+use Rattle.sheet.specs.Lines.{quadFrom}
+use Rattle.sheet.specs.Notes.{Lined}
 use Rattle.sheet.specs.Verdict.{kindRight, verdictOf}
 use Rattle.sheet.specs.declared.line.Layout.{Layout}
 use Rattle.sheet.specs.declared.line.Row.{Row}
@@ -24,14 +24,14 @@ use Rattle.sheet.specs.declared.verdict.Verdict.{Verdict}
 use Rattle.sheet.specs.declared.verdict.Verdict.the-variants.{Sheet}
 use Rattle.sheet.proofs.Acceptance.{accepts}
 use Rattle.sheet.proofs.FirstWrong.{none-wrong}
-use Rattle.sheet_form.specs.Encoding.{encode, listed, decode, Fits, poolLimit}
+use Rattle.sheet_form.specs.Encoding.{encode, listed, decode, Fits}
 use Rattle.sheet_form.specs.Encoding as E
-use Rattle.sheet_form.specs.Decoded.{Decoded, countsOf, rowIn, attributeIn, rangeIn, depthsIn, layoutFor}
+use Rattle.sheet_form.specs.Decoded.{Decoded, countsOf, rowIn, attributeIn, rangeIn, layoutFor}
 use Rattle.sheet_form.specs.Judged.{kindIn, bodyIn, isElementIn, treeIn, textIn, rowRangeIn, attributeRangeIn, rowTextIn, attributeTextIn, judgedIn, countsIn, verdictIn}
 use Rattle.sheet_form.specs.Right.{TextIn, LaterIn, Right}
 use Rattle.sheet_form.proofs.DecodeEncode.{row-is, attribute-is, range-is, encode-lined}
 use Rattle.sheet_form.proofs.EncodeDecode.{of-lined}
-use Rattle.sheet_form.proofs.Verdicts.{accepted-lined, depths-is, counts-is, verdict-encode}
+use Rattle.sheet_form.proofs.Verdicts.{depths-is, counts-is, verdict-encode}
 
 -- ---- right, it is accepted
 
@@ -97,17 +97,7 @@ encode-accepted {w} {d} fits r h = verdict-encode w d fits ∙ right-verdict d r
 
 -- ---- accepted, it is right
 
-pub above-below : (ds : List ℕ) (depth i j : ℕ) → lastAbove ds depth i ≡ some j → j < i
-above-below ds depth zero j e = absurd (let z : _≡_ {A = ℕ} 0 1 = cc in omega arith)
-above-below ds depth (suc i) j e =
-    by-test (eqb (suc (getD ds i 0)) depth)
-    (λ t. let q = some-is (rw (t, lastAbove) at e) in omega arith)
-    (λ t. let q = above-below ds depth i j (rw (t, lastAbove) at e) in omega arith)
-  where
-    some-is : some i ≡ some j → i ≡ j
-    some-is h = cc
-
-module _ {w : ℕ} (width : w ≤ 10) {d : Decoded} (fits : Fits w d) where
+module _ {w : ℕ} {d : Decoded} (fits : Fits w d) where
   abbrev s : Bytes
   s = encode w d
 
@@ -118,58 +108,60 @@ module _ {w : ℕ} (width : w ≤ 10) {d : Decoded} (fits : Fits w d) where
   text-in {at} {len} t = record { inside = t .inside; utf8 = ap valid (sym (range-is w d at len)) ∙ t .utf8 }
 
   module _ (a : Accepted s l) where
-    row : (i : ℕ) → i < length (d .rows) → rowAt s l i ≡ rowIn d i
+    row : (i : ℕ) → rowAt s l i ≡ rowIn d i
     row = row-is w d fits
 
-    attribute : (j : ℕ) → j < length (d .attributes) → attributeAt s l j ≡ attributeIn d j
+    attribute : (j : ℕ) → attributeAt s l j ≡ attributeIn d j
     attribute = attribute-is w d fits
 
     later-in : (i : ℕ) → suc i < length (d .rows) → LaterIn d i
     later-in i h =
         let t = a .later i h in
-        let this = row (suc i) h in
-        let before = row i (omega arith) in
+        let this = row (suc i) in
+        let before = row i in
         let parent = ap (λ (ds : List ℕ). parentOf ds (suc i)) (sym (depths-is w d fits)) ∙ t .parent .1 in
         let j = t .parent .0 in
-        let below = above-below (depthsIn d) _ (suc i) j parent in
         record {
           some-depth = rw this at (t .some-depth);
           most-depth = rw this at (t .most-depth);
           no-jump = rw (this, before) at (t .no-jump);
-          parent = (j, parent, ap (λ (r : Row). r .kind) (sym (row j (omega arith))) ∙ t .parent .2);
+          parent = (j, parent, ap (λ (r : Row). r .kind) (sym (row j)) ∙ t .parent .2);
         }
 
     accepted-in : Right d
     accepted-in =
-        let first = row 0 (a .sized .some-node) in
+        let first = row 0 in
         record {
           some-row = a .sized .some-node;
           rows = a .sized .nodes;
           attributes = a .sized .attributes;
           root-row = a .sized .root;
-          kind = λ i h. subst KindOf (row i h) (a .kind i h);
+          kind = λ i h. subst KindOf (row i) (a .kind i h);
           body-depth = ap (λ (r : Row). r .depth) (sym first) ∙ a .body-depth;
           body-element = ap (λ (r : Row). r .kind) (sym first) ∙ a .body-element;
           body-name = ap (λ (r : Row). rangeIn d (r .«name_at») (r .«name_len»)) (sym first) ∙ sym (range-is w d (rowAt s l 0 .«name_at») (rowAt s l 0 .«name_len»)) ∙ a .body-name;
           later = later-in;
-          root-element = ap (λ (r : Row). r .kind) (sym (row (d .root) (a .sized .root))) ∙ a .root;
-          name = λ i h. subst (λ (r : Row). TextIn d (r .«name_at») (r .«name_len»)) (row i h) (text-in (a .name i h));
-          value = λ i h. subst (λ (r : Row). TextIn d (r .«value_at») (r .«value_len»)) (row i h) (text-in (a .value i h));
-          attribute-name = λ j h. subst (λ (r : Attribute). TextIn d (r .«name_at») (r .«name_len»)) (attribute j h) (text-in (a .attribute-name j h));
-          attribute-value = λ j h. subst (λ (r : Attribute). TextIn d (r .«value_at») (r .«value_len»)) (attribute j h) (text-in (a .attribute-value j h));
+          root-element = ap (λ (r : Row). r .kind) (sym (row (d .root))) ∙ a .root;
+          name = λ i h. subst (λ (r : Row). TextIn d (r .«name_at») (r .«name_len»)) (row i) (text-in (a .name i h));
+          value = λ i h. subst (λ (r : Row). TextIn d (r .«value_at») (r .«value_len»)) (row i) (text-in (a .value i h));
+          attribute-name = λ j h. subst (λ (r : Attribute). TextIn d (r .«name_at») (r .«name_len»)) (attribute j) (text-in (a .attribute-name j h));
+          attribute-value = λ j h. subst (λ (r : Attribute). TextIn d (r .«value_at») (r .«value_len»)) (attribute j) (text-in (a .attribute-value j h));
           counts = sym (counts-is w d fits) ∙ a .counts;
         }
 
   pub accepted-right : {k : Layout} → verdictOf w (encode w d) ≡ Sheet k → Right d × (length (d .pool) ≤ poolLimit w)
-  unfolding poolLimit
   accepted-right {k} e =
-      let same : k ≡ layoutFor w d = accepted-lined e .0 .layout ∙ sym (encode-lined w d fits .layout) in
-      let a = subst (Accepted s) same (accepts width e .1) in
-      (accepted-in a, a .sized .pool)
+      let a = accepts (fits .most-columns) e in
+      let said : k ≡ layoutOf w (quadFrom w s 0) = a .1 .lined .layout ∙ ap (λ (v : ℕ). layoutOf v (quadFrom v s 0)) (a .0) in
+      let b = subst (Accepted s) (said ∙ sym (encode-lined w d fits .layout)) (a .1) in
+      (accepted-in b, b .sized .pool)
 
 -- ---- an accepted sheet, decoded
 
-pub accepted-decoded : {w : ℕ} → w ≤ 10 → (s : Bytes) (l : Layout) → verdictOf w s ≡ Sheet l → Right (decode l s) × (length (decode l s .pool) ≤ poolLimit w)
-accepted-decoded {w} width s l e =
-    let lined = accepted-lined e .0 in
-    accepted-right width (of-lined lined .fits) (ap (verdictOf w) (of-lined lined .bytes) ∙ e)
+pub of-accepted : {w : ℕ} → w ≤ 10 → (s : Bytes) (l : Layout) → verdictOf w s ≡ Sheet l
+    → (l .width ≡ w) × Lined s l × Right (decode l s) × (length (decode l s .pool) ≤ poolLimit (l .width))
+of-accepted width s l e =
+    let a = accepts width e in
+    let lined = a .1 .lined in
+    let r = accepted-right (of-lined lined .fits) (ap (verdictOf (l .width)) (of-lined lined .bytes) ∙ ap (λ (v : ℕ). verdictOf v s) (a .0) ∙ e) in
+    (a .0, lined, r .0, r .1)

@@ -7,9 +7,10 @@ use native.Mathlib.Nat.{pow-le-pow-right}
 use native.Mathlib.Omega.{arith}
 use lib.Dec.{lit<}
 use lib.ListN.{length, getD}
+use Rattle.sheet.specs.Layout.{noRow}
 use Rattle.sheet.specs.declared.line.Row.{Row}
 use Rattle.sheet_form.specs.Encoding.{Fits, Below, none, some}
-use Rattle.sheet_form.specs.Decoded.{Decoded, noRow, countsOf, rowIn}
+use Rattle.sheet_form.specs.Decoded.{Decoded, countsOf, rowIn}
 use Rattle.sheet_form.specs.Right.{Right}
 
 pub counts-at : (rs : List Row) (i : ℕ) → i < length rs → getD rs i noRow .attributes ≤ countsOf rs
@@ -34,11 +35,12 @@ module _ {d : Decoded} (r : Right d) where
   depth-small zero h = omega (arith, r .body-depth)
   depth-small (suc i) h = r .later i h .most-depth
 
-  pub right-fits : {w : ℕ} → 5 ≤ w → length (d .pool) < 10 ^ w → Fits w d
-  right-fits {w} wide h =
+  pub right-fits : {w : ℕ} → 5 ≤ w → w ≤ 10 → length (d .pool) < 10 ^ w → Fits w d
+  right-fits {w} wide most h =
       let large : 100000 ≤ 10 ^ w = pow-le-pow-right {n = 10} (lit< tt) {i = 5} {j = w} wide in
       record {
         some-column = omega arith;
+        most-columns = most;
         header = below-four (omega (arith, r .rows)) (omega (arith, r .attributes)) h (omega (arith, r .root-row, r .rows));
         row = λ i k.
             let name = r .name i k .inside in

@@ -10,9 +10,9 @@ use lib.Seq.{take-all}
 use Rattle.common.specs.Bytes.{Bytes}
 use Rattle.common.specs.Puts.{Puts}
 use Rattle.common.proofs.Puts.{puts-then, puts-length, Putting, putting-start, putting-more, putting-room, putting-end}
-use Rattle.sheet.specs.Accepted.{Accepted}
 use Rattle.sheet.specs.Columns.{columns}
 use Rattle.sheet.specs.Layout.{poolStart, rowAt, attributeAt, range}
+use Rattle.sheet.specs.Notes.{Lined}
 use Rattle.sheet.specs.Writing.{line, quadLine}
 use Rattle.sheet.specs.declared.line.Attribute.{Attribute}
 use Rattle.sheet.specs.declared.line.Layout.{Layout}
@@ -103,9 +103,9 @@ module _ (w : ℕ) {before after : Bytes} {at past : ℕ} where
   pub attributes-past : (here : ℕ → Attribute) (n : ℕ) → Puts before at (lines attributeNumbers w (listed here 0 n)) after past → (past ≡ at + (4 * w + 1) * n) × (length after ≡ length before)
   attributes-past here n p = puts-past _ _ (whole-length attributeNumbers 4 w (λ r. refl) here n) p
 
-module _ {s : Bytes} {l : Layout} (a : Accepted s l) (w : ℕ) where
+module _ {s : Bytes} {l : Layout} (lined : Lined s l) (w : ℕ) where
   pool-length : length (drop (poolStart l) s) ≡ l .pool
-  pool-length = length-drop (poolStart l) s ∙ omega (arith, a .sized .size)
+  pool-length = length-drop (poolStart l) s ∙ omega (arith, lined .size)
 
   pub pool-range : range s l 0 (l .pool) ≡ drop (poolStart l) s
   pool-range = ap (λ (p : ℕ). take (l .pool) (drop p s)) (add-zero (poolStart l)) ∙ take-all (l .pool) (drop (poolStart l) s) (omega (arith, pool-length))

@@ -3,6 +3,7 @@ use mathlib.Core.List.{List, [], _∷_, map}
 use Prim.Native.Nat.{ℕ, _+_}
 use lib.ListN.{length, getD, take, drop, set}
 use Rattle.common.specs.Bytes.{Bytes}
+use Rattle.sheet.specs.Layout.{noRow, noAttribute}
 use Rattle.sheet.specs.declared.line.Attribute.{Attribute}
 use Rattle.sheet.specs.declared.line.Layout.{Layout}
 use Rattle.sheet.specs.declared.line.Row.{Row}
@@ -12,13 +13,6 @@ pub record Decoded : Type 0 where
   pub attributes : List Attribute
   pub pool : Bytes
   pub root : ℕ
-
--- what stands past the last row, and past the last attribute
-abbrev pub noRow : Row
-noRow = record { depth = 0; kind = 0; skip = 0; «name_at» = 0; «name_len» = 0; «value_at» = 0; «value_len» = 0; attributes = 0 }
-
-abbrev pub noAttribute : Attribute
-noAttribute = record { «name_at» = 0; «name_len» = 0; «value_at» = 0; «value_len» = 0 }
 
 module _ (d : Decoded) where
   abbrev pub rowIn : ℕ → Row

@@ -1,13 +1,9 @@
 -- A decoded sheet's bytes in columns of any width, and a sheet's bytes decoded.
-use mathlib.Core.Path.{_≡_}
-use mathlib.Core.Bool.{true}
 use mathlib.Core.List.{List, [], _∷_, _++_}
 use Prim.Native.Nat.{ℕ, zero, suc, _^_, _≤_, _<_}
 use lib.ListN.{length, drop}
 use Rattle.common.specs.Bytes.{Bytes}
-use Rattle.sheet.specs.Layout.{poolStart, sizeOf, layoutOf, rowAt, attributeAt}
-use Rattle.sheet.specs.Lines.{lineRight, quadFrom}
-use Rattle.sheet.specs.Notes.{Formatted}
+use Rattle.sheet.specs.Layout.{poolStart, rowAt, attributeAt}
 use Rattle.sheet.specs.Writing.{line}
 use Rattle.sheet.specs.declared.line.Layout.{Layout}
 use Rattle.sheet_form.specs.Decoded.{Decoded, headerNumbers, rowNumbers, attributeNumbers, rowIn, attributeIn, layoutFor}
@@ -40,13 +36,6 @@ decode l s =
       root = l .root;
     }
 
--- every number stands in its columns and every line has its end, whatever the numbers say: 11 and 12 do not refuse s
-pub record Lined (w : ℕ) (s : Bytes) (l : Layout) : Type 0 where
-  pub header : lineRight w s 0 4 ≡ true
-  pub layout : l ≡ layoutOf w (quadFrom w s 0)
-  pub size : length s ≡ sizeOf l
-  pub formats : Formatted s l
-
 -- ---- what the width has a say in
 
 pub data Below (k : ℕ) : List ℕ → Type 0 where
@@ -56,10 +45,7 @@ pub data Below (k : ℕ) : List ℕ → Type 0 where
 -- the numbers have room in columns of width w
 pub record Fits (w : ℕ) (d : Decoded) : Type 0 where
   pub some-column : 1 ≤ w
+  pub most-columns : w ≤ 10
   pub header : Below (10 ^ w) (headerNumbers (layoutFor w d))
   pub row : (i : ℕ) → i < length (d .rows) → Below (10 ^ w) (rowNumbers (rowIn d i))
   pub attribute : (j : ℕ) → j < length (d .attributes) → Below (10 ^ w) (attributeNumbers (attributeIn d j))
-
--- "P to 4,194,304", at every width
-unfoldable pub poolLimit : ℕ → ℕ
-poolLimit w = 4194304

@@ -6,13 +6,13 @@ use lib.Dec.{leb, ltb, eqb}
 use lib.ListN.{length}
 use Rattle.common.specs.Bytes.{codes, same}
 use Rattle.utf8.specs.Valid.{valid}
+use Rattle.sheet.specs.Layout.{poolLimit}
 use Rattle.sheet.specs.Column.{parentOf}
 use Rattle.sheet.specs.Verdict.{firstWrong, stage, kindRight}
 use Rattle.sheet.specs.declared.line.Row.{Row}
 use Rattle.sheet.specs.declared.verdict.Verdict.{Verdict}
 use Rattle.sheet.specs.declared.verdict.Verdict.the-variants.{Sheet, Counts, Kind, Tree, Range, Encoding}
 use Rattle.sheet_form.specs.Decoded.{Decoded, countsOf, rowIn, attributeIn, rangeIn, depthsIn, layoutFor}
-use Rattle.sheet_form.specs.Encoding.{poolLimit}
 
 module _ (d : Decoded) where
   -- "N 1 to 20,000; A to 60,000; P to ..", and "root not below N"

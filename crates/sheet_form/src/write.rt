@@ -10,8 +10,8 @@ use sheet::write::put_short_line;
 ghost use Prim.Native.Nat.{_+_, _*_, _≤_};
 ghost use lib.ListN.{length};
 ghost use Rattle.common.specs.Puts.{Puts};
-ghost use Rattle.sheet.specs.Accepted.{Accepted};
 ghost use Rattle.sheet.specs.Layout.{attributeAt, attributeLength, headerLength, nodeLength, rowAt, sizeOf};
+ghost use Rattle.sheet.specs.Notes.{Lined};
 ghost use Rattle.sheet.specs.Writing.{line};
 ghost use Rattle.sheet_form.specs.Decoded.{attributeNumbers, headerNumbers, rowNumbers};
 ghost use Rattle.sheet_form.specs.Encoding.{decode, encode, lines, listed};
@@ -79,7 +79,7 @@ pub fn put_attribute(out: &mut [u8], at: usize, width: usize, a: Attribute) -> u
 
 // The lines of a sheet's rows.
 fn put_rows(out: &mut [u8], at: usize, width: usize, s: &[u8], l: Layout) -> usize
-    requires { ⌜ Accepted (now s) l × (at + nodeLength width * l .nodes ≤ length (now out)) ⌝ }
+    requires { ⌜ Lined (now s) l × (at + nodeLength width * l .nodes ≤ length (now out)) ⌝ }
     ensures { λ x. ⌜ Puts (now (out .entry)) at (lines rowNumbers width (listed (rowAt (now (s .entry)) l) 0 (l .nodes))) (now (out .exit)) x ⌝ }
 {
     let nodes = l.nodes;
@@ -94,7 +94,7 @@ fn put_rows(out: &mut [u8], at: usize, width: usize, s: &[u8], l: Layout) -> usi
 
 // The lines of its attributes.
 fn put_attributes(out: &mut [u8], at: usize, width: usize, s: &[u8], l: Layout) -> usize
-    requires { ⌜ Accepted (now s) l × (at + attributeLength width * l .attributes ≤ length (now out)) ⌝ }
+    requires { ⌜ Lined (now s) l × (at + attributeLength width * l .attributes ≤ length (now out)) ⌝ }
     ensures { λ x. ⌜ Puts (now (out .entry)) at (lines attributeNumbers width (listed (attributeAt (now (s .entry)) l) 0 (l .attributes))) (now (out .exit)) x ⌝ }
 {
     let attributes = l.attributes;
@@ -109,7 +109,7 @@ fn put_attributes(out: &mut [u8], at: usize, width: usize, s: &[u8], l: Layout) 
 
 // The sheet s in columns of another width.
 pub fn put_sheet(out: &mut [u8], width: usize, s: &[u8], l: Layout) -> usize
-    requires { ⌜ Accepted (now s) l × (sizeOf (atWidth width l) ≤ length (now out)) ⌝ }
+    requires { ⌜ Lined (now s) l × (sizeOf (atWidth width l) ≤ length (now out)) ⌝ }
     ensures { λ x. ⌜ Puts (now (out .entry)) 0 (encode width (decode l (now (s .entry)))) (now (out .exit)) x ⌝ }
 {
     let at1 = put_header(out, width, l);

@@ -12,8 +12,7 @@ use Rattle.common.proofs.Choice.{by-test, absurd-test}
 use Rattle.sheet.specs.Accepted.{Accepted}
 use Rattle.sheet.specs.Layout.{rowAt, depths}
 use Rattle.sheet.specs.Notes.{foundOf}
-use Rattle.sheet.specs.Verdict.{verdictOf, isSheet}
-use Rattle.sheet.specs.Verdict as verdict
+use Rattle.sheet.specs.Verdict.{verdict, isSheet}
 use Rattle.sheet.proofs.Acceptance.{NotSheet, not-sheet, accepts}
 use Rattle.sheet.specs.declared.line.Layout.{Layout}
 use Rattle.sheet.specs.declared.line.Row.{Row}
@@ -71,24 +70,24 @@ on-sheet-refused ask refuse (Range line) k = refl
 on-sheet-refused ask refuse (Encoding line) k = refl
 
 module _ (s : Bytes) (row : ℕ) where
-  pub asked-of : {l : Layout} {r : Row} → Sheet l ≡ verdictOf 8 s → There r ≡ lookupOf s l row → Of l r ≡ askedOf s row
+  pub asked-of : {l : Layout} {r : Row} → Sheet l ≡ verdict s → There r ≡ lookupOf s l row → Of l r ≡ askedOf s row
   unfolding askedOf
   asked-of {l} v e = rw (← v, ← e)
 
-  pub asked-no-row : {l : Layout} → Sheet l ≡ verdictOf 8 s → Missing ≡ lookupOf s l row → NoRow row ≡ askedOf s row
+  pub asked-no-row : {l : Layout} → Sheet l ≡ verdict s → Missing ≡ lookupOf s l row → NoRow row ≡ askedOf s row
   unfolding askedOf
   asked-no-row {l} v e = rw (← v, ← e)
 
-  pub asked-refused : {v : Verdict} → v ≡ verdictOf 8 s → NotSheet v → Refused v ≡ askedOf s row
+  pub asked-refused : {v : Verdict} → v ≡ verdict s → NotSheet v → Refused v ≡ askedOf s row
   unfolding askedOf
   asked-refused {v} e k = rw (← e) (sym (on-sheet-refused (λ l. withRow l row (lookupOf s l row)) Refused v (not-sheet v k)))
 
   -- a sheet that is asked is accepted and has the row
   pub asked-known : {l : Layout} {r : Row} → Of l r ≡ askedOf s row → Accepted s l × (row < l .nodes) × (r ≡ rowAt s l row)
   unfolding askedOf
-  asked-known {l} {r} e = by-verdict (verdictOf 8 s) refl e
+  asked-known {l} {r} e = by-verdict (verdict s) refl e
     where
-      by-lookup : (k : Layout) (x : Lookup) → verdictOf 8 s ≡ Sheet k → lookupOf s k row ≡ x → Of l r ≡ withRow k row x → Accepted s l × (row < l .nodes) × (r ≡ rowAt s l row)
+      by-lookup : (k : Layout) (x : Lookup) → verdict s ≡ Sheet k → lookupOf s k row ≡ x → Of l r ≡ withRow k row x → Accepted s l × (row < l .nodes) × (r ≡ rowAt s l row)
       by-lookup k (There q) v x p =
           let l-is : k ≡ l = cc in
           let r-is : q ≡ r = cc in
@@ -99,7 +98,7 @@ module _ (s : Bytes) (row : ℕ) where
       refused-not : (v : Verdict) → Of l r ≡ Refused v → ⊥
       refused-not v p = let z : _≡_ {A = ℕ} 0 1 = cc in omega arith
 
-      by-verdict : (v : Verdict) → verdictOf 8 s ≡ v → Of l r ≡ onSheet (λ l. withRow l row (lookupOf s l row)) Refused v → Accepted s l × (row < l .nodes) × (r ≡ rowAt s l row)
+      by-verdict : (v : Verdict) → verdict s ≡ v → Of l r ≡ onSheet (λ l. withRow l row (lookupOf s l row)) Refused v → Accepted s l × (row < l .nodes) × (r ≡ rowAt s l row)
       by-verdict (Sheet k) v p = by-lookup k (lookupOf s k row) v refl p
       by-verdict (Length n) v p = absurd (refused-not _ p)
       by-verdict (Format line) v p = absurd (refused-not _ p)
@@ -115,7 +114,7 @@ module _ (s : Bytes) (row : ℕ) {A : Type 0} (f : Asked → A) where
       → ((l : Layout) → f (Of l (rowAt s l row)) ≡ there l) → f (NoRow row) ≡ missing → ((v : Verdict) → f (Refused v) ≡ refuse v)
       → f (askedOf s row) ≡ bySheet there missing refuse s row
   unfolding askedOf lookupOf
-  asked-by-sheet {there} {missing} a m r = on-sheet-map f (λ l. at l (ltb row (l .nodes))) r (verdictOf 8 s)
+  asked-by-sheet {there} {missing} a m r = on-sheet-map f (λ l. at l (ltb row (l .nodes))) r (verdict s)
     where
       at : (l : Layout) (b : Bool) → f (withRow l row (cond b (There (rowAt s l row)) Missing)) ≡ cond b (there l) missing
       at l true = a l

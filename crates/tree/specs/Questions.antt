@@ -8,8 +8,8 @@ use Rattle.common.specs.Answer.{Answer, refused, written}
 use Rattle.common.specs.Bytes.{Bytes}
 use Rattle.sheet.specs.Layout.{rowAt, depths}
 use Rattle.sheet.specs.Notes.{foundOf}
-use Rattle.sheet.specs.Verdict.{verdictOf}
-use Rattle.sheet.specs.Verdict as verdict
+use Rattle.sheet.specs.Verdict.{verdict}
+use Rattle.sheet.specs.Verdict as sheet-verdict
 use Rattle.sheet.specs.declared.line.Layout.{Layout}
 use Rattle.sheet.specs.declared.verdict.Found.{Found}
 use Rattle.sheet.specs.declared.verdict.Found as found
@@ -43,11 +43,11 @@ withRow l row Missing = asked.the-variants.NoRow row
 
 -- "It comes after the sheet's refusals."
 unfoldable pub askedOf : Bytes → ℕ → Asked
-askedOf s row = onSheet (λ l. withRow l row (lookupOf s l row)) asked.the-variants.Refused (verdictOf 8 s)
+askedOf s row = onSheet (λ l. withRow l row (lookupOf s l row)) asked.the-variants.Refused (verdict s)
 
 -- an answer by the sheet alone: of a row that is there, of one that is not, of a sheet that is refused
 abbrev pub bySheet : {A : Type 0} → (Layout → A) → A → (Verdict → A) → Bytes → ℕ → A
-bySheet there missing refuse s row = onSheet (λ l. cond (ltb row (l .nodes)) (there l) missing) refuse (verdictOf 8 s)
+bySheet there missing refuse s row = onSheet (λ l. cond (ltb row (l .nodes)) (there l) missing) refuse (verdict s)
 
 -- "a parent, child, sibling .. that the tree lacks is a plain \"none\""
 abbrev pub fromFound : Found → Relative
@@ -72,7 +72,7 @@ abbrev pub numbers : Relative → Answer
 numbers (Row j) = rowFound j
 numbers Nothing = written 0
 numbers (NoRow i) = refused 35 i
-numbers (Refused v) = verdict.numbers v
+numbers (Refused v) = sheet-verdict.numbers v
 
 abbrev pub rowOrNone : Option ℕ → Answer
 rowOrNone none = written 0
@@ -80,4 +80,4 @@ rowOrNone (some j) = rowFound j
 
 -- the numbers of the whole answer, by the sheet alone
 unfoldable pub relativeNumbers : (List ℕ → ℕ → Option ℕ) → Bytes → ℕ → Answer
-relativeNumbers relation s row = bySheet (λ l. rowOrNone (relation (depths s l) row)) (refused 35 row) verdict.numbers s row
+relativeNumbers relation s row = bySheet (λ l. rowOrNone (relation (depths s l) row)) (refused 35 row) sheet-verdict.numbers s row

@@ -5,7 +5,7 @@ use mathlib.Core.Option.{some}
 use Prim.Native.Nat.{ℕ, suc, _-_, _<_}
 use lib.ListN.{length, getElem?}
 use Rattle.common.specs.Bytes.{Bytes}
-use Rattle.sheet.specs.Verdict.{verdictOf}
+use Rattle.sheet.specs.Verdict.{verdict}
 use Rattle.sheet.specs.declared.line.Layout.{Layout}
 use Rattle.sheet.specs.declared.verdict.Verdict.the-variants.{Sheet}
 use Rattle.utf8.specs.Encoding.{UTF8}
@@ -48,4 +48,4 @@ pub record SheetTree (s : Bytes) (l : Layout) : Type 0 where
   pub attributes : (i : ℕ) → i < l .nodes → (k : ℕ) (a : Attribute) → getElem? (pageOf s l .node i .attributes) k ≡ some a → UTF8 (a .name) × UTF8 (a .value)
 
 abbrev pub SheetIsTree : Type 0
-SheetIsTree = (s : Bytes) (l : Layout) → verdictOf 8 s ≡ Sheet l → SheetTree s l
+SheetIsTree = (s : Bytes) (l : Layout) → verdict s ≡ Sheet l → SheetTree s l

@@ -10,7 +10,7 @@ returns : tie.Need-returns
 returns c = let p = c .before .before .before .before .pre in shows-nothing (added-none (p .0 .0) _ _ (p .0 .1) (c .if1 .taken)) (p .1)
 
 part-requires : tie.Need-part-requires
-part-requires c κs = let p = c .before .before .before .before .pre .0 .0 in (p .accepted, value-inside p)
+part-requires c κs = let p = c .before .before .before .before .pre .0 .0 in (p .accepted .lined, value-inside p)
 
 is-escaped-requires : tie.Need-is-escaped-requires
 is-escaped-requires c κs = search needs

@@ -20,7 +20,7 @@ enum-known-at : tie.Need-enum-known-at
 enum-known-at c = search needs
 
 part-requires-2 : tie.Need-part-requires-2
-part-requires-2 c κs = let p = c .before .before .before .before .before .before .before .pre in (p .accepted, found-inside (p .accepted) _ _ _ (c .before .at .given .1) (c .before .before .before .find .ensures) (lines-fit p (c .before .before .before .before .row-at .ensures)))
+part-requires-2 c κs = let p = c .before .before .before .before .before .before .before .pre in (p .accepted .lined, found-inside (p .accepted) _ _ _ (c .before .at .given .1) (c .before .before .before .find .ensures) (lines-fit p (c .before .before .before .before .row-at .ensures)))
 
 returns : tie.Need-returns
 returns c = attr-absent (c .before .before .before .before .before .before .before .pre) (c .before .before .before .before .row-at .ensures) _ (c .before .enum-told .given .1) (c .before .before .before .find .ensures) (c .part .ensures)

@@ -14,10 +14,10 @@ returns : tie.Need-returns
 returns c = none-behind (nodeAt (now (c .before .before .before .args .s)) (c .before .before .before .args .l)) (depths (now (c .before .before .before .args .s)) (c .before .before .before .args .l)) _ _ (c .before .before .before .pre .2) (past-length _ _ _ (c .if1 .taken))
 
 row-at-requires : tie.Need-row-at-requires
-row-at-requires c κs = (c .before .before .before .pre .0, c .if1 .left)
+row-at-requires c κs = (c .before .before .before .pre .0 .lined, c .if1 .left)
 
 depth-at-requires : tie.Need-depth-at-requires
-depth-at-requires c κs = (c .before .before .before .before .pre .0, c .before .before .before .before .pre .1)
+depth-at-requires c κs = (c .before .before .before .before .pre .0 .lined, c .before .before .before .before .pre .1)
 
 returns-2 : tie.Need-returns-2
 returns-2 c = none-beside (nodeAt (now (c .before .before .before .before .before .before .before .args .s)) (c .before .before .before .before .before .before .before .args .l)) (depths (now (c .before .before .before .before .before .before .before .args .s)) (c .before .before .before .before .before .before .before .args .l)) _ _ (c .before .before .before .before .before .before .before .pre .2) (λ e. c .if2 .taken (depth-read (now (c .before .before .before .before .before .before .before .args .s)) (c .before .before .before .before .before .before .before .args .l) (c .before .before .before .before .before .before .before .args .end) (c .before .before .before .row-at .ensures) (c .before .before .before .before .if1 .left) refl ∙ e ∙ sym (depth-is (now (c .before .before .before .before .before .before .before .args .s)) (c .before .before .before .before .before .before .before .args .l) _ (c .before .before .before .before .before .before .before .pre .1) (c .before .before .depth-at .ensures))))

@@ -12,7 +12,7 @@ abbrev μ-loop : tie.MeasureT-loop
 μ-loop s l i stack row₀ depth₀ end₀ row depth end = depth
 
 depth-at-requires : tie.Need-depth-at-requires Inv-loop μ-loop
-depth-at-requires c κs = (c .before .before .pre .0, c .before .before .pre .1)
+depth-at-requires c κs = (c .before .before .pre .0 .lined, c .before .before .pre .1)
 
 past-requires : tie.Need-past-requires Inv-loop μ-loop
 past-requires c κs = (c .before .before .before .pre .0, c .before .before .before .pre .1)

@@ -14,7 +14,7 @@ returns : tie.Need-returns
 returns c = body-other (now (c .before .before .before .before .args .s)) (c .before .before .before .before .args .l) (c .before .before .before .before .args .i) (c .before .before .row-at .ensures) (c .if1 .taken)
 
 part-requires : tie.Need-part-requires
-part-requires c κs = (c .before .before .before .before .pre .0, name-fits _ _ _ (c .before .before .row-at .ensures) (c .before .before .before .before .pre .0) (c .before .before .before .before .pre .1))
+part-requires c κs = (c .before .before .before .before .pre .0 .lined, name-fits _ _ _ (c .before .before .row-at .ensures) (c .before .before .before .before .pre .0) (c .before .before .before .before .pre .1))
 
 slice-aggregate-same : tie.Need-slice-aggregate-same
 slice-aggregate-same c = search needs

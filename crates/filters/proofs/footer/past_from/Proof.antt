@@ -20,7 +20,7 @@ loop-holds : tie.Need-loop-holds Inv-loop μ-loop
 loop-holds c = (c .before .pre .1, refl)
 
 depth-at-requires : tie.Need-depth-at-requires Inv-loop μ-loop
-depth-at-requires c κs = (c .before .before .before .pre .0, c .loop-test .taken)
+depth-at-requires c κs = (c .before .before .before .pre .0 .lined, c .loop-test .taken)
 
 returns : tie.Need-returns Inv-loop μ-loop
 returns c = sym (past-stop _ _ _ _ (below-length _ _ _ (c .before .before .loop-test .taken)) (depth-is _ _ _ (c .before .before .loop-test .taken) (c .before .depth-at .ensures)) (c .if1 .taken)) ∙ c .before .before .before .loop .inv .1

@@ -7,10 +7,10 @@ use Rattle.filters.proofs.main_content.is_main_content.Statement.{state
 use Rattle.filters.proofs.main_content.is_main_content.Tie as tie
 
 row-at-requires : tie.Need-row-at-requires
-row-at-requires c κs = (c .before .before .pre .1, c .before .before .pre .2)
+row-at-requires c κs = (c .before .before .pre .1 .lined, c .before .before .pre .2)
 
 part-requires : tie.Need-part-requires
-part-requires c κs = (c .before .before .before .before .before .pre .1, value-fits _ _ _ (c .before .before .row-at .ensures) (c .before .before .before .before .before .pre .1) (c .before .before .before .before .before .pre .2))
+part-requires c κs = (c .before .before .before .before .before .pre .1 .lined, value-fits _ _ _ (c .before .before .row-at .ensures) (c .before .before .before .before .before .pre .1) (c .before .before .before .before .before .pre .2))
 
 trim-requires : tie.Need-trim-requires
 trim-requires c κs = search needs
@@ -25,7 +25,7 @@ returns-2 : tie.Need-returns-2
 returns-2 c = content-comment _ _ _ (c .before .before .before .before .row-at .ensures) _ _ (c .if2 .taken) (c .before .before .if1 .left)
 
 part-requires-2 : tie.Need-part-requires-2
-part-requires-2 c κs = (c .before .before .before .before .before .before .before .pre .1, name-fits _ _ _ (c .before .before .before .before .row-at .ensures) (c .before .before .before .before .before .before .before .pre .1) (c .before .before .before .before .before .before .before .pre .2))
+part-requires-2 c κs = (c .before .before .before .before .before .before .before .pre .1 .lined, name-fits _ _ _ (c .before .before .before .before .row-at .ensures) (c .before .before .before .before .before .before .before .pre .1) (c .before .before .before .before .before .before .before .pre .2))
 
 by-name-requires : tie.Need-by-name-requires
 by-name-requires c κs = (c .before .before .before .before .before .before .before .before .pre .0, c .before .before .before .before .before .before .before .before .pre .1, c .before .before .before .before .before .before .before .before .pre .2, tag-named _ _ _ (c .before .before .before .before .before .row-at .ensures) (c .before .if2 .left) (c .before .before .before .before .before .before .before .before .pre .3) (c .part2 .ensures), rw (c .before .before .before .before .before .before .before .before .pre .4) (counts-fit _ _ (c .before .before .before .before .before .before .before .before .pre .1) _ (c .before .before .before .before .before .before .before .before .pre .2) (c .before .before .before .before .before .row-at .ensures)), c .before .before .before .before .before .before .before .before .pre .5)

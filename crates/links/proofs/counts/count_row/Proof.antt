@@ -69,7 +69,7 @@ returns-2 c =
     (row-other n (a .r .depth) (a .c) (now (a .around)) (c .before .before .before .before .before .before .lower .ensures) (data-none _ _ _ (c .before .before .before .before .before .before .before .before .before .pre .2) (c .if2 .taken)), around-other n (a .r .depth) (now (a .around)) e)
 
 part-requires : tie.Need-part-requires
-part-requires c κs = (c .before .before .before .before .before .before .before .before .before .pre .0, value-fits _ _ _ (c .before .before .before .before .before .before .before .before .before .pre .2) (c .before .before .before .before .before .before .before .before .before .pre .0) (c .before .before .before .before .before .before .before .before .before .pre .1))
+part-requires c κs = (c .before .before .before .before .before .before .before .before .before .pre .0 .lined, value-fits _ _ _ (c .before .before .before .before .before .before .before .before .before .pre .2) (c .before .before .before .before .before .before .before .before .before .pre .0) (c .before .before .before .before .before .before .before .before .before .pre .1))
 
 add-text-requires : tie.Need-add-text-requires
 add-text-requires c κs =

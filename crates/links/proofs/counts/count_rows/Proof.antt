@@ -21,7 +21,7 @@ abbrev μ-loop : tie.MeasureT-loop
 μ-loop s l i most around₀ nodes d c₀ j₀ around c j = nodes - j
 
 depth-at-requires : tie.Need-depth-at-requires Inv-loop μ-loop
-depth-at-requires c κs = (c .before .before .pre .0, c .before .before .pre .1)
+depth-at-requires c κs = (c .before .before .pre .0 .lined, c .before .before .pre .1)
 
 add-j : tie.Need-add-j Inv-loop μ-loop
 add-j c = omega (arith, c .before .before .before .pre .0 .sized .nodes)
@@ -37,7 +37,7 @@ loop-holds c =
     )
 
 row-at-requires : tie.Need-row-at-requires Inv-loop μ-loop
-row-at-requires c κs = (c .before .before .before .before .before .pre .0, c .loop-test .taken)
+row-at-requires c κs = (c .before .before .before .before .before .pre .0 .lined, c .loop-test .taken)
 
 same-length : tie.Need-same-length Inv-loop μ-loop
 same-length c = c .before .before .before .before .loop .inv .2 ∙ sym (zeros-size (c .before .before .before .before .before .before .before .before .pre .3))

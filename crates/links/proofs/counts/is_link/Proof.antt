@@ -11,7 +11,7 @@ returns : tie.Need-returns
 returns c = sym (link-of-other _ (not-element _ _ _ (c .before .before .before .pre .2) (c .if1 .taken)))
 
 part-requires : tie.Need-part-requires
-part-requires c κs = (c .before .before .before .pre .0, name-fits _ _ _ (c .before .before .before .pre .2) (c .before .before .before .pre .0) (c .before .before .before .pre .1))
+part-requires c κs = (c .before .before .before .pre .0 .lined, name-fits _ _ _ (c .before .before .before .pre .2) (c .before .before .before .pre .0) (c .before .before .before .pre .1))
 
 slice-aggregate-same : tie.Need-slice-aggregate-same
 slice-aggregate-same c = search needs

@@ -4,7 +4,7 @@ use mathlib.Core.Path.{ap, _∙_}
 use lib.ListN.{take, drop}
 use denote.Ref.{now}
 use Rattle.common.proofs.Parts.{part-to}
-use Rattle.sheet.proofs.LayoutLaws.{pool-start}
+use Rattle.sheet.proofs.LinedLaws.{pool-from}
 use borrow.Author.Needs.{needs}
 use Rattle.sheet.proofs.read.part.Statement.{statement}
 use Rattle.sheet.proofs.read.part.Tie as tie
@@ -30,7 +30,7 @@ part-result-end c = search needs
 returns : tie.Need-returns
 returns c =
     let a = c .before .before .args in
-    part-to (now (a .s)) _ (a .len) ∙ ap (λ (p : ℕ). take (a .len) (drop (p + a .at) (now (a .s)))) (pool-start (c .before .before .pre .0 .sized))
+    part-to (now (a .s)) _ (a .len) ∙ ap (λ (p : ℕ). take (a .len) (drop (p + a .at) (now (a .s)))) (pool-from (c .before .before .pre .0))
 
 pub part-spec : {M : Type 1} → statement M
 part-spec =

@@ -1,7 +1,9 @@
 -- `verdict::kind_at` meets its contract.
 use native.Mathlib.Omega.{arith}
-use Rattle.sheet.specs.Layout.{rowAt}
-use Rattle.sheet.proofs.LayoutLaws.{node-fits}
+use mathlib.Core.Path.{sym, ap, _∙_}
+use denote.Ref.{now}
+use Rattle.sheet.specs.declared.line.Row.{Row}
+use Rattle.sheet.proofs.LayoutLaws.{node-fits, row-there}
 use borrow.Author.Needs.{needs}
 use Rattle.sheet.proofs.verdict.kind_at.Statement.{statement}
 use Rattle.sheet.proofs.verdict.kind_at.Tie as tie
@@ -31,8 +33,9 @@ number-at-requires : tie.Need-number-at-requires
 number-at-requires c κs = (omega (arith, node-fits (c .before .pre .0) (c .before .args .i) (c .before .pre .1)), omega (arith, c .before .pre .0 .width))
 
 returns : tie.Need-returns
-unfolding rowAt
-returns c = c .number-at .ensures
+returns c =
+    let start = c .before .before in
+    c .number-at .ensures ∙ ap (λ (r : Row). r .kind) (sym (row-there (now (start .args .s)) (start .args .l) (start .args .i) (start .pre .1)))
 
 pub kind-at-spec : {M : Type 1} → statement M
 kind-at-spec =

@@ -1,7 +1,7 @@
 -- `in_place::set_number` meets its contract.
 use mathlib.Core.Path.{_∙_}
 use native.Mathlib.Omega.{arith}
-use Rattle.sheet_form.proofs.NumberBytes.{number-room, number-set}
+use Rattle.sheet_form.proofs.NumberBytes.{number-place, number-set}
 use borrow.Author.Needs.{needs}
 use Rattle.sheet_form.proofs.in_place.set_number.Statement.{statement}
 use Rattle.sheet_form.proofs.in_place.set_number.Tie as tie
@@ -19,19 +19,19 @@ add-at-2 : tie.Need-add-at-2
 add-at-2 c = search needs
 
 mul-at-3 : tie.Need-mul-at-3
-mul-at-3 c = let p = c .before .pre in omega (arith, number-room (p .0) _ _ (p .1) (p .2))
+mul-at-3 c = let p = c .before .pre in omega (arith, number-place (p .0) _ _ (p .1) (p .2))
 
 add-at-3 : tie.Need-add-at-3
-add-at-3 c = let p = c .before .pre in omega (arith, number-room (p .0) _ _ (p .1) (p .2))
+add-at-3 c = let p = c .before .pre in omega (arith, number-place (p .0) _ _ (p .1) (p .2))
 
 mul-at-4 : tie.Need-mul-at-4
-mul-at-4 c = let p = c .before .pre in omega (arith, number-room (p .0) _ _ (p .1) (p .2))
+mul-at-4 c = let p = c .before .pre in omega (arith, number-place (p .0) _ _ (p .1) (p .2))
 
 add-at-4 : tie.Need-add-at-4
-add-at-4 c = let p = c .before .pre in omega (arith, number-room (p .0) _ _ (p .1) (p .2))
+add-at-4 c = let p = c .before .pre in omega (arith, number-place (p .0) _ _ (p .1) (p .2))
 
 put-columns-requires : tie.Need-put-columns-requires
-put-columns-requires c κs = let p = c .before .before .pre in omega (arith, number-room (p .0) _ _ (p .1) (p .2))
+put-columns-requires c κs = let p = c .before .before .pre in omega (arith, number-place (p .0) _ _ (p .1) (p .2))
 
 same-length : tie.Need-same-length
 same-length c = search needs

@@ -6,8 +6,8 @@ use Rattle.sheet_form.proofs.EncodeDecode.{of-lined}
 use Rattle.sheet_form.proofs.Marking.{marks-right, mark-right}
 use Rattle.sheet_form.proofs.PageLaws.{page-encode, page-decode}
 use Rattle.sheet_form.proofs.Refusals.{same-refusal}
-use Rattle.sheet_form.proofs.Rightness.{encode-accepted, accepted-right, accepted-decoded}
-use Rattle.sheet_form.proofs.Verdicts.{verdict-encode, accepted-lined}
+use Rattle.sheet_form.proofs.Rightness.{encode-accepted, accepted-right, of-accepted}
+use Rattle.sheet_form.proofs.Verdicts.{verdict-encode}
 use Rattle.sheet_form.proofs.Widths.{right-fits}
 use Rattle.sheet_form.proofs.theorems.theorems.Statement.{statement}
 use Rattle.sheet_form.proofs.theorems.theorems.Tie as tie
@@ -17,8 +17,8 @@ returns c =
     record {
       of-lined = of-lined;
       of-accepted = λ {w} {s} {l} width e.
-          let r = accepted-decoded width s l e in
-          record { lined = accepted-lined e .0; right = r .0; pool = r .1; page = page-decode width s e };
+          let r = of-accepted width s l e in
+          record { width = r .0; lined = r .1; right = r .2; pool = r .3; page = page-decode (r .1) (r .2) };
       of-decoded = λ {w} {d} fits.
           record {
             lined = encode-lined w d fits;
@@ -27,7 +27,7 @@ returns c =
             attribute = attribute-is w d fits;
             range = range-is w d;
             verdict = verdict-encode w d fits;
-            accepted = λ width. (accepted-right width fits, λ r. encode-accepted fits (r .0) (r .1));
+            accepted = (accepted-right fits, λ r. encode-accepted fits (r .0) (r .1));
             page = page-encode w d fits;
           };
       of-widths = λ {w} {v} {d} fits other. record { refusal = same-refusal d fits other; rewritten = ap (encode w) (decode-encode v d other) };

@@ -17,7 +17,7 @@ loop-holds : tie.Need-loop-holds Inv-loop μ-loop
 loop-holds c = (omega arith, sym (counts-none _ _))
 
 row-at-requires : tie.Need-row-at-requires Inv-loop μ-loop
-row-at-requires c κs = (c .before .before .before .pre .0, omega arith)
+row-at-requires c κs = (c .before .before .before .pre .0 .lined, omega arith)
 
 add-n : tie.Need-add-n Inv-loop μ-loop
 add-n c =

@@ -8,13 +8,13 @@ use Rattle.tree.proofs.content.add_row.Statement.{statement}
 use Rattle.tree.proofs.content.add_row.Tie as tie
 
 row-at-requires : tie.Need-row-at-requires
-row-at-requires c κs = (c .before .pre .0, c .before .pre .1)
+row-at-requires c κs = (c .before .pre .0 .lined, c .before .pre .1)
 
 returns : tie.Need-returns
 returns c = squeezed-other _ _ _ (c .before .before .row-at .ensures) _ (c .if1 .taken)
 
 part-requires : tie.Need-part-requires
-part-requires c κs = (c .before .before .before .before .pre .0, value-fits _ _ _ (c .before .before .row-at .ensures) (c .before .before .before .before .pre .0) (c .before .before .before .before .pre .1))
+part-requires c κs = (c .before .before .before .before .pre .0 .lined, value-fits _ _ _ (c .before .before .row-at .ensures) (c .before .before .before .before .pre .0) (c .before .before .before .before .pre .1))
 
 collapsed-from-requires : tie.Need-collapsed-from-requires
 collapsed-from-requires c κs = search needs

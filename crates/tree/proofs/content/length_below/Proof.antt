@@ -24,7 +24,7 @@ abbrev μ-loop : tie.MeasureT-loop
 μ-loop s l i nodes d p₀ j₀ p j = nodes - j
 
 depth-at-requires : tie.Need-depth-at-requires Inv-loop μ-loop
-depth-at-requires c κs = (c .before .pre .0, c .before .pre .1)
+depth-at-requires c κs = (c .before .pre .0 .lined, c .before .pre .1)
 
 add-j : tie.Need-add-j Inv-loop μ-loop
 add-j c = omega (arith, c .before .before .pre .0 .sized .nodes)
@@ -35,7 +35,7 @@ loop-holds c =
     (omega arith, rw (depth-is _ _ _ (c .before .before .pre .1) (c .depth-at .ensures)) (zero-add _ ∙ sym (length-below-of (nodeAt (now (a .s)) (a .l)) (depths (now (a .s)) (a .l)) (well-formed (c .before .before .pre .0)) (a .i) (is-element _ _ _ refl (c .before .before .pre .2)))))
 
 depth-at-requires-2 : tie.Need-depth-at-requires-2 Inv-loop μ-loop
-depth-at-requires-2 c κs = (c .before .before .before .before .pre .0, c .loop-test .taken)
+depth-at-requires-2 c κs = (c .before .before .before .before .pre .0 .lined, c .loop-test .taken)
 
 returns : tie.Need-returns Inv-loop μ-loop
 returns c = length-stop _ _ _ _ _ (c .before .before .before .loop .p) (c .before .before .before .loop .inv .1) _ (below-length _ _ _ (c .before .before .loop-test .taken)) (depth-is _ _ _ (c .before .before .loop-test .taken) (c .before .depth-at2 .ensures)) (c .if1 .taken)

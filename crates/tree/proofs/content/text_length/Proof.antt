@@ -10,7 +10,7 @@ use Rattle.tree.proofs.content.text_length.Statement.{statement}
 use Rattle.tree.proofs.content.text_length.Tie as tie
 
 row-at-requires : tie.Need-row-at-requires
-row-at-requires c κs = c .before .pre
+row-at-requires c κs = let p = c .before .pre in (p .0 .lined, p .1)
 
 length-below-requires : tie.Need-length-below-requires
 length-below-requires c κs = (c .before .before .before .before .pre .0, c .before .before .before .before .pre .1, rw (c .before .before .row-at .ensures) at (c .if1 .taken))
@@ -19,7 +19,7 @@ returns : tie.Need-returns
 returns c = c .length-below .ensures
 
 part-requires : tie.Need-part-requires
-part-requires c κs = (c .before .before .before .before .pre .0, value-fits _ _ _ (c .before .before .row-at .ensures) (c .before .before .before .before .pre .0) (c .before .before .before .before .pre .1))
+part-requires c κs = (c .before .before .before .before .pre .0 .lined, value-fits _ _ _ (c .before .before .row-at .ensures) (c .before .before .before .before .pre .0) (c .before .before .before .before .pre .1))
 
 collapsed-len-requires : tie.Need-collapsed-len-requires
 collapsed-len-requires c κs = tt

@@ -17,7 +17,7 @@ abbrev μ-loop : tie.MeasureT-loop
 μ-loop s l i d j₀ j = j
 
 depth-at-requires : tie.Need-depth-at-requires Inv-loop μ-loop
-depth-at-requires c κs = c .before .pre
+depth-at-requires c κs = let p = c .before .pre in (p .0 .lined, p .1)
 
 loop-holds : tie.Need-loop-holds Inv-loop μ-loop
 loop-holds c = (omega arith, rw (depth-is _ _ _ (c .before .before .pre .1) (c .depth-at .ensures)))
@@ -26,7 +26,7 @@ sub-depth-at : tie.Need-sub-depth-at Inv-loop μ-loop
 sub-depth-at c = omega arith
 
 depth-at-requires-2 : tie.Need-depth-at-requires-2 Inv-loop μ-loop
-depth-at-requires-2 c κs = (c .before .before .before .before .pre .0, omega arith)
+depth-at-requires-2 c κs = (c .before .before .before .before .pre .0 .lined, omega arith)
 
 add-if1 : tie.Need-add-if1 Inv-loop μ-loop
 add-if1 c = omega (arith, c .depth-at2 .ensures, depth-small _ _ (c .before .before .before .before .before .pre .0) (c .before .before .loop .j - 1) (omega arith))

@@ -18,7 +18,7 @@ abbrev μ-loop : tie.MeasureT-loop
 μ-loop s l i nodes d j₀ j = nodes - j
 
 depth-at-requires : tie.Need-depth-at-requires Inv-loop μ-loop
-depth-at-requires c κs = c .before .pre
+depth-at-requires c κs = let p = c .before .pre in (p .0 .lined, p .1)
 
 add-j : tie.Need-add-j Inv-loop μ-loop
 add-j c = omega arith
@@ -29,7 +29,7 @@ loop-holds c =
     (omega arith, rw (depth-is _ _ _ (c .before .before .pre .1) (c .depth-at .ensures)) (sym (past-start (depths (now (a .s)) (a .l)) (a .i))))
 
 depth-at-requires-2 : tie.Need-depth-at-requires-2 Inv-loop μ-loop
-depth-at-requires-2 c κs = (c .before .before .before .before .pre .0, c .loop-test .taken)
+depth-at-requires-2 c κs = (c .before .before .before .before .pre .0 .lined, c .loop-test .taken)
 
 returns : tie.Need-returns Inv-loop μ-loop
 returns c = sym (past-stop _ _ _ _ (below-length _ _ _ (c .before .before .loop-test .taken)) (depth-is _ _ _ (c .before .before .loop-test .taken) (c .before .depth-at2 .ensures)) (c .if1 .taken)) ∙ c .before .before .before .loop .inv .1

@@ -17,7 +17,7 @@ loop-holds : tie.Need-loop-holds Inv-loop μ-loop
 loop-holds c = longest-start _ _
 
 row-at-requires : tie.Need-row-at-requires Inv-loop μ-loop
-row-at-requires c κs = (c .before .before .before .pre, c .loop-test .taken)
+row-at-requires c κs = (c .before .before .before .pre .lined, c .loop-test .taken)
 
 names-len-requires : tie.Need-names-len-requires Inv-loop μ-loop
 names-len-requires c κs = (c .before .before .before .before .pre, rw (c .before .before .loop .inv .first-is) (counts-fit _ _ (c .before .before .before .before .pre) (c .before .before .loop .i) (c .before .loop-test .taken) (c .row-at .ensures)))
