@@ -13,6 +13,7 @@ use Rattle.sheet.specs.Layout.{rowAt, depths}
 use Rattle.sheet.specs.declared.line.Layout.{Layout}
 use Rattle.sheet.specs.declared.line.Row.{Row}
 use Rattle.tree.specs.Node.{element, Node}
+use Rattle.tree.specs.Page.{widestPool}
 use Rattle.tree.specs.Questions.{askedOf}
 use Rattle.tree.specs.declared.questions.Asked.{Asked}
 use Rattle.tree.specs.declared.questions.Asked.the-variants.{Of}
@@ -31,7 +32,7 @@ use Rattle.links.proofs.MeasureLaws.{measure-too-long}
 
 module _ (rule : Rule) where
   -- a text beyond, though it is small, is beyond a limit
-  limit-is : (n : ℕ) → n ≤ 20000 * 4194304 → mostOf rule < n → (ltb 0 (rule .limit) ≡ true) × (mostOf rule ≡ rule .limit)
+  limit-is : (n : ℕ) → n ≤ 20000 * widestPool → mostOf rule < n → (ltb 0 (rule .limit) ≡ true) × (mostOf rule ≡ rule .limit)
   limit-is n small g =
       by-test (ltb 0 (rule .limit))
       (λ t. (t, rw t))
@@ -40,7 +41,7 @@ module _ (rule : Rule) where
   too-long : (n : ℕ) → ltb 0 (rule .limit) ≡ true → rule .limit < n → isTooLong rule n ≡ true
   too-long n t g = rw (t, lt-ltb (rule .limit) n g)
 
-  pub measure-counts : {nodeOf : ℕ → Node} {depths : List ℕ} {i : ℕ} {r : Counts} → CountsUpTo (mostOf rule) nodeOf depths i r → textBytes nodeOf depths i ≤ 20000 * 4194304
+  pub measure-counts : {nodeOf : ℕ → Node} {depths : List ℕ} {i : ℕ} {r : Counts} → CountsUpTo (mostOf rule) nodeOf depths i r → textBytes nodeOf depths i ≤ 20000 * widestPool
       → measureOf rule (r .text) (r .links) ≡ measureOf rule (textBytes nodeOf depths i) (linkBytes nodeOf depths i)
   measure-counts {nodeOf} {depths} {i} {r} k small =
       let n = textBytes nodeOf depths i in

@@ -3,31 +3,28 @@ use mathlib.Core.Path.{_≡_, refl, sym, ap, _∙_}
 use mathlib.Core.Bool.{Bool, true, false}
 use mathlib.Core.List.{List, [], _∷_}
 use Prim.Native.Nat.{ℕ, zero, suc, _+_, _-_, _*_, _≤_, _<_, min}
+use native.Mathlib.Nat.{le-trans, mul-le-mul-left}
 use native.Mathlib.Omega.{arith}
 use native.Mathlib.Numerals.{add-one}
 use lib.ListN.{length, getD, set, replicate, length-set, length-replicate}
 use Rattle.common.specs.Bytes.{Bytes}
-use Rattle.common.proofs.Choice.{by-test}
 use Rattle.sheet.specs.Accepted.{Accepted}
 use Rattle.sheet.specs.Layout.{rowAt, depths}
 use Rattle.sheet.specs.declared.line.Layout.{Layout}
 use Rattle.sheet.specs.declared.line.Row.{Row}
-use Rattle.sheet.proofs.LayoutLaws.{depths-from-length}
 use Rattle.text.specs.Text.{isSpace, squeezed, collapseFrom, spaceAfter, collapse, collapseBy}
 use Rattle.tree.specs.Node.{Node}
-use Rattle.tree.specs.Page.{nodeAt}
-use Rattle.tree.specs.Rows.{rowsFrom, pastOf}
+use Rattle.tree.specs.Page.{widestPool, nodeAt}
 use Rattle.tree.specs.TextContent.{textData}
 use Rattle.tree.proofs.Column.{below-length, past-length, depth-is, depth-small}
-use Rattle.tree.proofs.Descendants.{descendants}
-use Rattle.tree.proofs.PastLaws.{past-of-low, past-of-high}
 use Rattle.tree.proofs.SheetColumn.{well-formed}
-use Rattle.tree.proofs.TextLengths.{length-small}
+use Rattle.tree.proofs.TextLengths.{length-small, whole-small}
 use Rattle.links.specs.Counting.{countsOf, withText, lowered, countRow, aroundAfter, Room, CountsUpTo}
-use Rattle.links.specs.Links.{isLink, textBytes, linksAmong, linkBytes}
+use Rattle.links.specs.Links.{isLink, textBytes, linkBytes}
 use Rattle.links.specs.declared.counts.Counting.{Counting}
 use Rattle.links.specs.declared.counts.Counts.{Counts}
 use Rattle.links.proofs.Counted.{Counted, counted-done, counted-stop, counted-more}
+use Rattle.links.proofs.LinkBounds.{counts-bounded}
 use Rattle.links.proofs.LinkLaws.{link-no-data}
 use Rattle.links.proofs.Paths.{below-mono, below-most}
 
@@ -91,7 +88,7 @@ module _ (n : Node) (depth : ℕ) (c : Counting) (around : List ℕ) {low : ℕ}
 
   pub row-room : {t : Bytes} → textData n ≡ t → Room n depth c around
       → let k = withText (record { text = c .text; links = c .links; space = c .space; low = low }) depth (getD around depth 0) (getD around low 0) t in
-      (getD around low 0 ≤ getD around depth 0) × (k .text ≤ 20000 * 4194304) × (k .links ≤ 20000 * (20000 * 4194304))
+      (getD around low 0 ≤ getD around depth 0) × (k .text ≤ 20000 * widestPool) × (k .links ≤ 500 * (20000 * widestPool))
   row-room {t} e r =
       let q = row-text e refl refl refl in
       (rw low-is (r .ordered), rw q (r .text), rw q (r .links))
@@ -114,23 +111,8 @@ zeros-size e = ap length e ∙ length-replicate {A = ℕ} 502 0
 -- ---- the sums stay small
 
 module _ {s : Bytes} {l : Layout} (a : Accepted s l) where
-  links-rows-small : (i n : ℕ) → i + n ≤ l .nodes → linksAmong (nodeAt s l) (depths s l) (rowsFrom i n) ≤ n * (20000 * 4194304)
-  unfolding linksAmong rowsFrom
-  links-rows-small i zero h = omega arith
-  links-rows-small i (suc n) h =
-      let r = links-rows-small (suc i) n (omega arith) in
-      by-test (isLink (nodeAt s l i))
-      (λ e. rw (e, linksAmong) (omega (arith, length-small a i (omega arith))))
-      (λ e. rw (e, linksAmong) (omega arith))
-
-  pub links-small : (i : ℕ) → i < l .nodes → linkBytes (nodeAt s l) (depths s l) i ≤ 20000 * (20000 * 4194304)
-  unfolding linkBytes
-  links-small i h =
-      let d = depths s l in
-      let rows : length d ≡ l .nodes = depths-from-length s l 0 (l .nodes) in
-      let past : pastOf d i ≤ l .nodes = omega (arith, past-of-high d i (below-length s l i h)) in
-      rw (descendants d (well-formed a) i)
-      (omega (arith, links-rows-small (suc i) (pastOf d i - suc i) (omega (arith, past-of-low d i)), a .sized .nodes))
+  pub links-small : (i : ℕ) → i < l .nodes → linkBytes (nodeAt s l) (depths s l) i ≤ 500 * (20000 * widestPool)
+  links-small i h = le-trans (counts-bounded s l a i h .1) (mul-le-mul-left 500 (whole-small a))
 
   -- ---- the pass: row i at depth d is measured, row j is the next
 

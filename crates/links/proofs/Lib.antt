@@ -3,6 +3,7 @@ pub mod CountLaws
 pub mod Counted
 pub mod ExactLaws
 pub mod ExamplesLaws
+pub mod LinkBounds
 pub mod LinkLaws
 pub mod MeasureLaws
 pub mod Paths

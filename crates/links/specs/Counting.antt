@@ -9,6 +9,7 @@ use lib.ListN.{length, getD, set}
 use Rattle.common.specs.Bytes.{Bytes}
 use Rattle.text.specs.Text.{isSpace, collapseFrom, spaceAfter, collapse}
 use Rattle.tree.specs.Node.{Node}
+use Rattle.tree.specs.Page.{widestPool}
 use Rattle.tree.specs.TextContent.{textData}
 use Rattle.links.specs.Links.{isLink, textBytes, linkBytes}
 use Rattle.links.specs.declared.Rule.{Rule}
@@ -50,8 +51,8 @@ pub record Room (n : Node) (depth : ℕ) (c : Counting) (around : List ℕ) : Ty
   pub size : length around ≡ 502
   pub ordered : getD around (min (c .low) depth) 0 ≤ getD around depth 0
   pub few : getD around depth 0 ≤ 20000
-  pub text : countRow n depth c around .text ≤ 20000 * 4194304
-  pub links : countRow n depth c around .links ≤ 20000 * (20000 * 4194304)
+  pub text : countRow n depth c around .text ≤ 20000 * widestPool
+  pub links : countRow n depth c around .links ≤ 500 * (20000 * widestPool)
 
 -- a pass that may stop once the text has more than `most` bytes
 pub record CountsUpTo (most : ℕ) (nodeOf : ℕ → Node) (depths : List ℕ) (i : ℕ) (r : Counts) : Type 0 where

@@ -12,7 +12,7 @@ ghost use lib.ListN.{length, replicate};
 ghost use Rattle.sheet.specs.Accepted.{Accepted};
 ghost use Rattle.sheet.specs.Layout.{depths, rowAt};
 ghost use Rattle.text.specs.Text.{collapse, collapseFrom, isSpace};
-ghost use Rattle.tree.specs.Page.{nodeAt};
+ghost use Rattle.tree.specs.Page.{nodeAt, widestPool};
 ghost use Rattle.links.specs.Counting.{CountsUpTo, Room, aroundAfter, countRow, withText};
 ghost use Rattle.links.specs.Links.{isLink};
 
@@ -57,14 +57,14 @@ fn own_len(t: &[u8], space: bool, len: usize) -> usize
 }
 
 fn more_links(links: usize, old: usize, len: usize, new: usize, own: usize) -> usize
-    requires { ⌜ links + old * len + new * own ≤ 20000 * (20000 * 4194304) ⌝ }
+    requires { ⌜ links + old * len + new * own ≤ 500 * (20000 * widestPool) ⌝ }
     ensures { λ r. ⌜ r ≡ links + old * len + new * own ⌝ }
 {
     links + old * len + new * own
 }
 
 fn add_text(t: &[u8], c: Counting, depth: usize, above: usize, old: usize) -> Counting
-    requires { ⌜ (old ≤ above) × (withText c depth above old (now t) .text ≤ 20000 * 4194304) × (withText c depth above old (now t) .links ≤ 20000 * (20000 * 4194304)) ⌝ }
+    requires { ⌜ (old ≤ above) × (withText c depth above old (now t) .text ≤ 20000 * widestPool) × (withText c depth above old (now t) .links ≤ 500 * (20000 * widestPool)) ⌝ }
     ensures { λ r. ⌜ r ≡ withText c depth above old (now (t .entry)) ⌝ }
 {
     if t.len() == 0 {

@@ -83,10 +83,10 @@ module _ (s : Bytes) (l : Layout) {r : Row} (i : ℕ) (r-is : r ≡ rowAt s l i)
 
 -- a row shows at most the pool
 module _ {s : Bytes} {l : Layout} (a : Accepted s l) (i : ℕ) (h : i < l .nodes) where
-  pub value-small : length (nodeAt s l i .value) ≤ 4194304
-  value-small = rw (value-is s l i refl) (simp length-take (omega (arith, a .value i h .inside, a .sized .pool)))
+  pub value-small : length (nodeAt s l i .value) ≤ l .pool
+  value-small = rw (value-is s l i refl) (simp length-take (omega (arith, a .value i h .inside)))
 
-  pub data-small : length (textData (nodeAt s l i)) ≤ 4194304
+  pub data-small : length (textData (nodeAt s l i)) ≤ l .pool
   data-small =
       by-test (eqb (rowAt s l i .kind) 3)
       (λ t. rw (data-is s l i refl (eqb-true (rowAt s l i .kind) 3 t), ← value-is s l i refl) value-small)

@@ -3,6 +3,7 @@ use mathlib.Core.Path.{_≡_, refl, sym, ap, _∙_}
 use mathlib.Core.Bool.{false}
 use mathlib.Core.List.{List, [], _∷_, _++_}
 use Prim.Native.Nat.{ℕ, zero, suc, _+_, _-_, _*_, _≤_, _<_}
+use native.Mathlib.Nat.{le-trans, mul-le-mul-left, mul-le-mul-right}
 use native.Mathlib.Omega.{arith}
 use native.Mathlib.Numerals.{add-one}
 use lib.Dec.{eqb}
@@ -19,9 +20,9 @@ use Rattle.text.specs.Text.{isSpace, collapseFrom, spaceAfter, collapseBy}
 use Rattle.text.specs.declared.Squeezed.{Squeezed}
 use Rattle.text.proofs.CollapseLaws.{collapse-append, collapse-from-length, collapse-length}
 use Rattle.tree.specs.Node.{element, Node}
-use Rattle.tree.specs.Page.{nodeAt}
+use Rattle.tree.specs.Page.{widestPool, nodeAt}
 use Rattle.tree.specs.Rows.{WellFormed, childrenOf, pastOf, rowsFrom}
-use Rattle.tree.specs.TextContent.{textData, concatenated, textContent, textOfRows}
+use Rattle.tree.specs.TextContent.{textData, concatenated, descendantText, textContent, textOfRows}
 use Rattle.tree.specs.TextLength.{textLength, squeezedOn, lengthTo, lengthOf, numbers, lengthNumbers}
 use Rattle.tree.specs.Questions.{askedOf}
 use Rattle.tree.specs.declared.content.LengthAnswer.{LengthAnswer}
@@ -33,6 +34,9 @@ use Rattle.tree.proofs.PageLaws.{is-element, not-element, data-is, data
 use Rattle.tree.proofs.PastLaws.{past-of-low, past-of-high}
 use Rattle.tree.proofs.SheetColumn.{well-formed}
 use Rattle.tree.proofs.TextLaws.{text-of-element, text-of-other, textBelow, text-below-done, text-below-stop, text-below-more}
+
+pub pool-small : {s : Bytes} {l : Layout} → Accepted s l → l .pool ≤ widestPool
+pool-small a = omega (arith, a .sized .pool)
 
 -- ---- a text in two parts
 
@@ -52,8 +56,8 @@ module _ (s : Bytes) (l : Layout) {r : Row} (j : ℕ) (r-is : r ≡ rowAt s l j)
   squeezed-text q k e c = rw (data-is s l j r-is k, ← e) (rw (c .0, c .1))
 
   pub squeezed-fits : {part : Bytes} (q : Squeezed) → Accepted s l → j < l .nodes → r .kind ≡ 3 → part ≡ range s l (r .«value_at») (r .«value_len»)
-      → q .len ≡ length (collapseFrom isSpace (p .space) part) → q .len ≤ 4194304
-  squeezed-fits {part} q a h k e c = omega (arith, c, collapse-from-length isSpace (p .space) part, ap length (e ∙ sym (data-is s l j r-is k)), data-small a j h)
+      → q .len ≡ length (collapseFrom isSpace (p .space) part) → q .len ≤ widestPool
+  squeezed-fits {part} q a h k e c = omega (arith, c, collapse-from-length isSpace (p .space) part, ap length (e ∙ sym (data-is s l j r-is k)), data-small a j h, pool-small a)
 
 module _ (nodeOf : ℕ → Node) (depths : List ℕ) where
   -- the text below row i
@@ -87,29 +91,40 @@ module _ (nodeOf : ℕ → Node) (depths : List ℕ) where
 -- ---- the bound
 
 module _ {s : Bytes} {l : Layout} (a : Accepted s l) where
-  pub text-rows-small : (i n : ℕ) → i + n ≤ l .nodes → length (textOfRows (nodeAt s l) i n) ≤ n * 4194304
+  pub text-rows-small : (i n : ℕ) → i + n ≤ l .nodes → length (textOfRows (nodeAt s l) i n) ≤ n * l .pool
   unfolding concatenated rowsFrom
   text-rows-small i zero h = omega arith
   text-rows-small i (suc n) h =
       omega (arith, length-append (textData (nodeAt s l i)) (textOfRows (nodeAt s l) (suc i) n), data-small a i (omega arith), text-rows-small (suc i) n (omega arith))
 
-  content-small : (i : ℕ) → i < l .nodes → length (textContent (nodeAt s l) i (childrenOf (depths s l) i)) ≤ 20000 * 4194304
-  content-small i h =
+  pub below-small : (i : ℕ) → i < l .nodes → length (descendantText (nodeAt s l) (childrenOf (depths s l) i)) ≤ l .nodes * l .pool
+  below-small i h =
       let d = depths s l in
       let rows : length d ≡ l .nodes = depths-from-length s l 0 (l .nodes) in
       let past : pastOf d i ≤ l .nodes = omega (arith, past-of-high d i (below-length s l i h)) in
-      let n : pastOf d i - suc i ≤ 20000 = omega (arith, a .sized .nodes) in
+      let n : pastOf d i - suc i ≤ l .nodes = omega arith in
+      rw (descendants d (well-formed a) i)
+      (le-trans (text-rows-small (suc i) (pastOf d i - suc i) (omega (arith, past-of-low d i))) (mul-le-mul-right (l .pool) n))
+
+  content-small : (i : ℕ) → i < l .nodes → length (textContent (nodeAt s l) i (childrenOf (depths s l) i)) ≤ l .nodes * l .pool
+  content-small i h =
       by-test (eqb (rowAt s l i .kind) 1)
       (λ t.
-      rw (text-of-element (nodeAt s l) i (childrenOf d i) (is-element s l i refl (eqb-true (rowAt s l i .kind) 1 t)), descendants d (well-formed a) i)
-      (omega (arith, text-rows-small (suc i) (pastOf d i - suc i) (omega (arith, past-of-low d i)))))
+      rw (text-of-element (nodeAt s l) i (childrenOf (depths s l) i) (is-element s l i refl (eqb-true (rowAt s l i .kind) 1 t))) (below-small i h))
       (λ t.
-      rw (text-of-other (nodeAt s l) i (childrenOf d i) (not-element s l i refl (eqb-false (rowAt s l i .kind) 1 t)))
-      (omega (arith, value-small a i h)))
+      rw (text-of-other (nodeAt s l) i (childrenOf (depths s l) i) (not-element s l i refl (eqb-false (rowAt s l i .kind) 1 t)))
+      (omega (arith, value-small a i h, mul-le-mul-right (l .pool) (a .sized .some-node))))
 
-  pub length-small : (i : ℕ) → i < l .nodes → textLength (nodeAt s l) (depths s l) i ≤ 20000 * 4194304
+  pub length-in-pool : (i : ℕ) → i < l .nodes → textLength (nodeAt s l) (depths s l) i ≤ l .nodes * l .pool
   unfolding textLength
-  length-small i h = omega (arith, collapse-length isSpace (textContent (nodeAt s l) i (childrenOf (depths s l) i)), content-small i h)
+  length-in-pool i h = omega (arith, collapse-length isSpace (textContent (nodeAt s l) i (childrenOf (depths s l) i)), content-small i h)
+
+  -- all rows, and each with the whole pool
+  pub whole-small : l .nodes * l .pool ≤ 20000 * widestPool
+  whole-small = le-trans (mul-le-mul-right (l .pool) (a .sized .nodes)) (mul-le-mul-left 20000 (pool-small a))
+
+  pub length-small : (i : ℕ) → i < l .nodes → textLength (nodeAt s l) (depths s l) i ≤ 20000 * widestPool
+  length-small i h = le-trans (length-in-pool i h) whole-small
 
 -- ---- the answer to a byte string, by what is asked
 

@@ -18,6 +18,10 @@ pub record Page : Type 0 where
   pub marked : ℕ → Bool
   pub root : ℕ
 
+-- the longest pool that the bounds on a page allow for: a sheet's is at most 4,194,304 bytes today
+abbrev pub widestPool : ℕ
+widestPool = 268435456
+
 -- "kind (1 element, 3 text, 8 comment)"
 unfoldable pub kindOf : ℕ → Kind
 kindOf k = cond (eqb k 1) element (cond (eqb k 3) text comment)
