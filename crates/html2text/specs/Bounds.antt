@@ -1,5 +1,5 @@
 -- How large the numbers of a run can grow, by how many events there are and how much one of them adds: with at most 40,000 events, each of
--- which adds at most 25,165,900 bytes, all of them fit a word.
+-- which adds at most six times a pool of 268,435,456 bytes, all of them fit a word.
 use mathlib.Core.Path.{_≡_}
 use mathlib.Core.Bool.{Bool}
 use mathlib.Core.List.{List, [], _∷_}
@@ -9,7 +9,7 @@ use Rattle.common.specs.Answer.{Answer}
 use Rattle.common.specs.Bytes.{Bytes}
 use Rattle.options.specs.declared.ExtractOptions.{ExtractOptions}
 use Rattle.sheet.specs.declared.line.Layout.{Layout}
-use Rattle.tree.specs.Page.{nodeAt, pageOf}
+use Rattle.tree.specs.Page.{widestPool, nodeAt, pageOf}
 use Rattle.html2text.specs.Collect.{Event, added}
 use Rattle.html2text.specs.Extract.{Run, going, tooManyLevels, tooManyRows}
 use Rattle.html2text.specs.Fused.{Fused, idle, closed, fedAll}
@@ -22,15 +22,15 @@ mostEvents = 40000
 
 -- six times the longest pool, and what a link has beside its address
 abbrev pub mostAdded : ℕ
-mostAdded = 25165900
-
--- six times that, and what a step writes beside its text
-abbrev pub mostWritten : ℕ
-mostWritten = 152000000
+mostAdded = 6 * widestPool + 11
 
 -- what a step after k entries can write beside its text: margins, indents, marks and tags
 abbrev pub beside : ℕ → ℕ
 beside k = 20 * k + 6227
+
+-- six times that, and what a step writes beside its text
+abbrev pub mostWritten : ℕ
+mostWritten = 6 * mostAdded + beside mostEvents
 
 -- where no entry was refused, P holds of the state
 abbrev pub Going : (State → Type 0) → Run → Type 0
