@@ -166,7 +166,7 @@ unfoldable pub filterDepth : Page → ℕ → ℕ
 unfolding bodyFrom
 filterDepth p i = getD (p .depths) i 0 - getD (p .depths) (bodyAbove (p .node) (p .depths) (p .root)) 0
 
--- "Filtered out means that main_content is on and `is_main_content` says no to the row, the icon rule included."
+-- "Filtered out means that main_content is on and `is_main_content` says no to the row, the icon rule included.": the second of the two
 unfoldable pub filtered : Page → ExtractOptions → ℕ → Bool
 unfolding isMainContent filterDepth
-filtered p o i = elim (o .«main_content») [ false ↦ false | true ↦ not (isMainContent (p .node) (p .depths) o i (filterDepth p i)) ]
+filtered p o i = not (isMainContent (p .node) (p .depths) o i (filterDepth p i))

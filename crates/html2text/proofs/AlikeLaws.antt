@@ -1,29 +1,34 @@
 -- Trees that are alike give the same events, visits and pieces but for row numbers, and pages that are alike the same extraction; pages of
 -- the same rows are alike.
 use mathlib.Core.Path.{_≡_, refl, sym, ap, ap₂, subst, _∙_}
-use mathlib.Core.Bool.{Bool, true, false, _||_, cond}
+use mathlib.Core.Bool.{Bool, true, false, _&&_, _||_, cond}
 use mathlib.Core.List.{List, [], _∷_, _++_, map, map-append, map-id}
 use Prim.Native.Nat.{ℕ, zero, suc, _+_, _≤_, _<_}
 use native.Mathlib.Omega.{arith}
-use lib.Dec.{ltb}
+use lib.Dec.{ltb, lit≤}
 use lib.ListN.{length, getD, drop, length-drop}
 use Rattle.common.specs.Bytes.{Bytes}
-use Rattle.common.proofs.Choice.{by-test}
+use Rattle.common.proofs.Choice.{by-test, absurd-test}
 use Rattle.options.specs.declared.ExtractOptions.{ExtractOptions}
 use Rattle.options.specs.declared.Formatting.{Formatting}
+use Rattle.sheet.specs.Verdict.{verdict}
+use Rattle.sheet.specs.declared.line.Layout.{Layout}
+use Rattle.sheet.specs.declared.verdict.Verdict.the-variants.{Sheet}
+use Rattle.sheet.proofs.Acceptance.{accepts}
 use Rattle.tree.specs.Forest.{Forest, empty, node}
 use Rattle.tree.specs.Node.{Node}
-use Rattle.tree.specs.Page.{Page, SamePage}
+use Rattle.tree.specs.Page.{Page, pageOf, SamePage}
 use Rattle.tree.specs.Rows.{build, numbered, childrenOf}
 use Rattle.tree.proofs.Order.{trichotomy, build-deeper, build-here, build-less}
 use Rattle.writer.specs.Out.{greater}
-use Rattle.html2text.specs.Alike.{eventBy, entryBy, pieceBy, lineBy, runBy, extractionBy, SameNumbers, RowsAlike, Alike, SameWalk, PagesAlike, SameExtraction}
+use Rattle.html2text.specs.Alike.{eventBy, entryBy, pieceBy, lineBy, runBy, extractionBy, SameNumbers, RowsAlike, Alike, SameWalk, PagesAlike, SameExtraction, SameAnswers}
 use Rattle.html2text.specs.Collect.{Event, Entry, pushes, pushed, amended, onLast, collect, collectAll}
-use Rattle.html2text.specs.Extract.{Run, going, tooManyLevels, tooManyRows, passesLevels, passesRows, taken, serialized, longestText, namesLength, longestNames, concluded, outThen, workThen, hidden, entries, passes, workNeed, extraction, outAfter, workAfter}
+use Rattle.html2text.specs.Extract.{Run, going, tooManyLevels, tooManyRows, passesLevels, passesRows, taken, serialized, longestText, namesLength, longestNames, concluded, outThen, workThen, hidden, entries, passes, workNeed, extraction, outAfter, workAfter, filteredBy, extractionOf, outAfterOf, workAfterOf}
 use Rattle.html2text.specs.Pieces.{Piece, rowPieces, along, pieces}
 use Rattle.html2text.specs.Serialize.{one}
 use Rattle.html2text.specs.Walk.{isComment, hasTrees, leftOut, events, visits, treeOf}
 use Rattle.html2text.specs.declared.Extraction.{Extraction}
+use Rattle.html2text.proofs.PageLaws.{page-right}
 use Rattle.html2text.specs.declared.Extraction.the-variants.{Text, Refused, ListLevels, OpenRows, WorkTooShort, OutTooShort}
 
 -- ---- where no number changes
@@ -229,7 +234,7 @@ module _ (old : ℕ → ℕ) (filtered₁ : ℕ → Bool) (p₁ : Page) (filtere
         work = λ work. (λ k. workThen (need-same k) (visits-same k) (run-same k) work) ∙ work-by old need visits run work;
       }
 
--- ---- the trees of one depth column, where its rows are alike
+-- ---- pages of the same rows: the trees of one depth column, where its rows are alike
 
 module _ (node₁ : ℕ → Node) (hidden₁ : ℕ → Bool) (node₂ : ℕ → Node) (hidden₂ : ℕ → Bool) where
   abbrev RowsSame : ℕ → Type 0
@@ -247,11 +252,17 @@ module _ (node₁ : ℕ → Node) (hidden₁ : ℕ → Bool) (node₂ : ℕ → 
       (λ g. rw (build-here (x, k) rows d g) (h k (omega arith) (omega arith), (λ e. column-alike depths (suc k) (suc d) later), column-alike depths (suc k) d later))
       (λ g. rw (build-less (x, k) rows d g) tt)
 
+and-same : (a : Bool) {b c : Bool} → (a ≡ true → b ≡ c) → (a && b) ≡ (a && c)
+and-same true e = e refl
+and-same false e = refl
+
 module _ (filtered₁ : ℕ → Bool) (p₁ : Page) (filtered₂ : ℕ → Bool) (p₂ : Page) (o : ExtractOptions)
-    (same : SamePage p₁ p₂) (inside : p₁ .root < length (p₁ .depths)) (filtered-same : (i : ℕ) → i < length (p₁ .depths) → filtered₁ i ≡ filtered₂ i) where
+    (same : SamePage p₁ p₂) (inside : p₁ .root < length (p₁ .depths)) (filtered-same : o .«main_content» ≡ true → (i : ℕ) → i < length (p₁ .depths) → filtered₁ i ≡ filtered₂ i) where
   row-same : (i : ℕ) → i < length (p₁ .depths) → RowsAlike (λ j. j) (p₁ .node) (hidden filtered₁ p₁ o) (p₂ .node) (hidden filtered₂ p₂ o) i i
   row-same i h = record {
-    out = λ k. isComment (same .node i h k .kind) || (same .marked i h k || filtered-same i h k);
+    out =
+        let filters = and-same (o .«main_content») (λ e. filtered-same e i h) in
+        λ k. isComment (same .node i h k .kind) || (same .marked i h k || filters k);
     row = λ e. refl;
     same = λ e. same .node i h;
   }
@@ -279,3 +290,23 @@ module _ (filtered₁ : ℕ → Bool) (p₁ : Page) (filtered₂ : ℕ → Bool)
     tree = tree-same;
     names = λ e. longest-same (length (p₁ .depths)) (omega arith) ∙ ap (λ (ds : List ℕ). longestNames (p₂ .node) (length ds)) (same .depths);
   }
+
+-- ---- byte strings
+
+module _ (filters : (ℕ → Node) → List ℕ → ℕ → ExtractOptions → ℕ → Bool) where
+  pub same-answers : (s₁ s₂ : Bytes) (l₁ l₂ : Layout) (o : ExtractOptions) → verdict s₁ ≡ Sheet l₁ → verdict s₂ ≡ Sheet l₂
+      → SamePage (pageOf s₁ l₁) (pageOf s₂ l₂) → o .«main_content» ≡ false → SameAnswers filters s₁ s₂ o
+  unfolding extractionOf outAfterOf workAfterOf
+  same-answers s₁ s₂ l₁ l₂ o first second same off =
+      let p₁ = pageOf s₁ l₁ in
+      let p₂ = pageOf s₂ l₂ in
+      let f₁ = filteredBy filters p₁ o in
+      let f₂ = filteredBy filters p₂ o in
+      let x =
+      same-extraction (λ i. i) f₁ p₁ f₂ p₂ o
+      (same-pages-alike f₁ p₁ f₂ p₂ o same (page-right (accepts (lit≤ tt) first .1) .root) (λ e. absurd-test e off)) in
+      record {
+        answer = λ out work. rw (first, second) (x .answer out work ∙ answer-unchanged (extraction f₂ p₂ o out work));
+        out = λ out work. rw (first, second) (x .out out work);
+        work = λ work. rw (first, second) (x .work work);
+      }

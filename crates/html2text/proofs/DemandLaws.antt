@@ -52,7 +52,7 @@ module _ (filtered : Page → ExtractOptions → ℕ → Bool) (p : Page) where
       ap struck (x .text)
       ∙ struck-rstrip isSpace (x .state .out .text)
       ∙ written o (x .state) (x .run) .text
-      ∙ kept-pieces (p .node) h (off o) (treeOf p) (page-cells p h (λ i e. or-left (p .marked i) (filtered p (off o) i) e) cells) (page-parents p right)
+      ∙ kept-pieces (p .node) h (off o) (treeOf p) (page-cells p h (λ i e. or-left (p .marked i) _ e) cells) (page-parents p right)
 
   module _ (o : ExtractOptions) (t : Bytes) (is-off : o .formatting ≡ Off) (x : TextOf filtered p o t) where
     pub blanks-right : BlanksRight t
@@ -69,7 +69,9 @@ module _ (filtered : Page → ExtractOptions → ℕ → Bool) (o : ExtractOptio
   hidden-further : hidden (filtered p₂ o) p₂ o ≡ further (p₁ .node) (hidden (filtered p₁ o) p₁ o) (furtherMarked p₁ p₂) o
   hidden-further =
       fun-ext
-      (λ i. ap (λ (f : ℕ → Bool). p₂ .marked i || f i) blind ∙ marks-further (p₁ .marked i) (p₂ .marked i) (filtered p₁ o i) (marks .kept i))
+      (λ i.
+      ap (λ (f : ℕ → Bool). p₂ .marked i || (o .«main_content» && f i)) blind
+      ∙ marks-further (p₁ .marked i) (p₂ .marked i) (o .«main_content» && filtered p₁ o i) (marks .kept i))
 
   pieces-less : visiblePieces filtered p₂ o ≡ without (furtherMarked p₁ p₂) (visiblePieces filtered p₁ o)
   pieces-less =

@@ -11,7 +11,7 @@ use Rattle.tree.specs.Forest.{Forest, empty, node}
 use Rattle.tree.specs.Node.{Node}
 use Rattle.tree.specs.Page.{Page}
 use Rattle.html2text.specs.Collect.{Event, Entry}
-use Rattle.html2text.specs.Extract.{Run, going, tooManyLevels, tooManyRows, serialized, longestNames, hidden, passes, workNeed, extraction, outAfter, workAfter}
+use Rattle.html2text.specs.Extract.{Run, going, tooManyLevels, tooManyRows, serialized, longestNames, hidden, passes, workNeed, extraction, outAfter, workAfter, extractionOf, outAfterOf, workAfterOf}
 use Rattle.html2text.specs.Extract as extract
 use Rattle.html2text.specs.Pieces.{Piece}
 use Rattle.html2text.specs.Pieces as pieces
@@ -97,3 +97,11 @@ module _ (old : ℕ → ℕ) (filtered₁ : ℕ → Bool) (p₁ : Page) (filtere
     pub answer : (out work : ℕ) → extraction filtered₁ p₁ o out work ≡ extractionBy old (extraction filtered₂ p₂ o out work)
     pub out : (out work : Bytes) → outAfter filtered₁ p₁ o out work ≡ outAfter filtered₂ p₂ o out work
     pub work : (work : Bytes) → workAfter filtered₁ p₁ o work ≡ workAfter filtered₂ p₂ o work
+
+-- ---- byte strings
+
+-- what is to be shown of two sheets that show the same rows, with main_content off: whatever buffers are lent, the answer and what they then hold
+pub record SameAnswers (filters : (ℕ → Node) → List ℕ → ℕ → ExtractOptions → ℕ → Bool) (s₁ s₂ : Bytes) (o : ExtractOptions) : Type 0 where
+  pub answer : (out work : ℕ) → extractionOf filters s₁ o out work ≡ extractionOf filters s₂ o out work
+  pub out : (out work : Bytes) → outAfterOf filters s₁ o out work ≡ outAfterOf filters s₂ o out work
+  pub work : (work : Bytes) → workAfterOf filters s₁ o work ≡ workAfterOf filters s₂ o work

@@ -109,11 +109,11 @@ module _ (need passes : ℕ) where
   workThen (tooManyLevels line) work = work
   workThen (tooManyRows line) work = work
 
--- ---- of a page: `filtered` says which rows `is_main_content` leaves out
+-- ---- of a page: `filtered` says which rows `is_main_content` leaves out, and is asked with main_content alone
 
 module _ (filtered : ℕ → Bool) (p : Page) (o : ExtractOptions) where
   abbrev pub hidden : ℕ → Bool
-  hidden i = p .marked i || filtered i
+  hidden i = p .marked i || (o .«main_content» && filtered i)
 
   abbrev pub entries : List Entry
   entries = collectAll o [] (events (p .node) hidden 0 (treeOf p))

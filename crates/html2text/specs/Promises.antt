@@ -1,6 +1,6 @@
 -- What the definitions promise for every page, entry and event; `theorems` (src/theorems.rt) has them as its contract.
 use mathlib.Core.Path.{_≡_}
-use mathlib.Core.Bool.{Bool}
+use mathlib.Core.Bool.{Bool, true, false}
 use mathlib.Core.List.{List}
 use Prim.Native.Nat.{ℕ, _≤_, _<_}
 use lib.ListN.{length}
@@ -13,7 +13,7 @@ use Rattle.sheet.specs.declared.verdict.Verdict.the-variants.{Sheet}
 use Rattle.tree.specs.Forest.{Forest}
 use Rattle.tree.specs.Node.{Node}
 use Rattle.tree.specs.Page.{Page, pageOf, SamePage}
-use Rattle.html2text.specs.Alike.{SameNumbers, Alike, SameWalk, PagesAlike, SameExtraction}
+use Rattle.html2text.specs.Alike.{SameNumbers, Alike, SameWalk, PagesAlike, SameExtraction, SameAnswers}
 use Rattle.html2text.specs.Bounds.{mostEvents, EachAdds, RunBounded, EventsBounded}
 use Rattle.html2text.specs.Collect.{Event}
 use Rattle.html2text.specs.Demand3.{Demand3}
@@ -46,10 +46,13 @@ pub record AlikeRight : Type 0 where
       → Alike old node₁ hidden₁ node₂ hidden₂ f g → SameWalk old node₁ hidden₁ node₂ hidden₂ o f g
   pub extraction : (old : ℕ → ℕ) (filtered₁ : ℕ → Bool) (p₁ : Page) (filtered₂ : ℕ → Bool) (p₂ : Page) (o : ExtractOptions)
       → PagesAlike old filtered₁ p₁ filtered₂ p₂ o → SameExtraction old filtered₁ p₁ filtered₂ p₂ o
-  -- the same rows, and the same of them filtered out
+  -- the same rows and, with main_content, the same of them filtered out
   pub page : (filtered₁ : ℕ → Bool) (p₁ : Page) (filtered₂ : ℕ → Bool) (p₂ : Page) (o : ExtractOptions)
-      → SamePage p₁ p₂ → p₁ .root < length (p₁ .depths) → ((i : ℕ) → i < length (p₁ .depths) → filtered₁ i ≡ filtered₂ i)
+      → SamePage p₁ p₂ → p₁ .root < length (p₁ .depths) → (o .«main_content» ≡ true → (i : ℕ) → i < length (p₁ .depths) → filtered₁ i ≡ filtered₂ i)
       → PagesAlike (λ i. i) filtered₁ p₁ filtered₂ p₂ o
+  pub sheets : (filters : (ℕ → Node) → List ℕ → ℕ → ExtractOptions → ℕ → Bool) (s₁ s₂ : Bytes) (l₁ l₂ : Layout) (o : ExtractOptions)
+      → verdict s₁ ≡ Sheet l₁ → verdict s₂ ≡ Sheet l₂ → SamePage (pageOf s₁ l₁) (pageOf s₂ l₂) → o .«main_content» ≡ false
+      → SameAnswers filters s₁ s₂ o
 
 -- demand 3, whatever rows main_content leaves out
 abbrev pub Demand3ForAll : Type 0

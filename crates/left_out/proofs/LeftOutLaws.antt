@@ -1,6 +1,6 @@
 -- A row is left out by what is noted of it and by the filters; without them, what is noted says it of every row.
 use mathlib.Core.Path.{_≡_, refl, sym, ap, _∙_}
-use mathlib.Core.Bool.{Bool, true, false, not, _||_, or-assoc, or-false}
+use mathlib.Core.Bool.{Bool, true, false, not, _&&_, _||_, or-assoc, or-false}
 use mathlib.Core.List.{List}
 use mathlib.Core.Option.{Option, none, some}
 use Prim.Native.Nat.{ℕ, zero, suc, _-_, _≤_, _<_}
@@ -10,8 +10,7 @@ use Rattle.common.specs.Bytes.{Bytes}
 use Rattle.common.proofs.Choice.{by-test}
 use Rattle.filters.specs.Filters.{filtered, filterDepth, isMainContent}
 use Rattle.filters.specs.Footer.{Above, isBody, bodyFrom, bodyAbove}
-use Rattle.html2text.specs.Extract.{hidden}
-use Rattle.html2text.specs.Walk.{isComment, leftOut, treeOf}
+use Rattle.html2text.specs.Walk.{isComment}
 use Rattle.options.specs.declared.ExtractOptions.{ExtractOptions}
 use Rattle.sheet.specs.Accepted.{Accepted}
 use Rattle.sheet.specs.Column.{parentOf}
@@ -50,29 +49,21 @@ module _ (nodeOf : ℕ → Node) (column : List ℕ) where
 -- ---- a row
 
 module _ (s : Bytes) (l : Layout) (o : ExtractOptions) where
-  left-out-split : (i : ℕ) → leftOutAt s l o i ≡ (commentOrMarked s l i || filtered (pageOf s l) o i)
-  left-out-split i = sym (or-assoc (isComment (nodeAt s l i .kind)) (pageOf s l .marked i) (filtered (pageOf s l) o i))
+  left-out-split : (main : Bool) (i : ℕ) → o .«main_content» ≡ main → leftOutAt s l o i ≡ (commentOrMarked s l i || (main && filtered (pageOf s l) o i))
+  left-out-split main i e =
+      ap (λ (b : Bool). isComment (nodeAt s l i .kind) || (pageOf s l .marked i || (b && filtered (pageOf s l) o i))) e
+      ∙ sym (or-assoc (isComment (nodeAt s l i .kind)) (pageOf s l .marked i) (main && filtered (pageOf s l) o i))
 
-  filtered-on : (i : ℕ) → o .«main_content» ≡ true → filtered (pageOf s l) o i ≡ not (isMainContent (nodeAt s l) (depths s l) o i (getD (depths s l) i 0 - bodyDepth s l))
+  filtered-is : (i : ℕ) → filtered (pageOf s l) o i ≡ not (isMainContent (nodeAt s l) (depths s l) o i (getD (depths s l) i 0 - bodyDepth s l))
   unfolding filtered filterDepth
-  filtered-on i e = rw (e, filtered)
-
-  filtered-off : (i : ℕ) → o .«main_content» ≡ false → filtered (pageOf s l) o i ≡ false
-  unfolding filtered
-  filtered-off i e = rw (e, filtered)
+  filtered-is i = refl
 
   by-filters : {marked out : Bool} {d : ℕ} (i : ℕ) → o .«main_content» ≡ true → marked ≡ commentOrMarked s l i → d ≡ getD (depths s l) i 0 - bodyDepth s l
       → out ≡ (marked || not (isMainContent (nodeAt s l) (depths s l) o i d)) → out ≡ leftOutAt s l o i
-  by-filters i on m-is d-is out-is = out-is ∙ rw (m-is, d-is) (sym (left-out-split i ∙ ap (λ (b : Bool). commentOrMarked s l i || b) (filtered-on i on)))
+  by-filters i on m-is d-is out-is = out-is ∙ rw (m-is, d-is) (sym (left-out-split true i on ∙ ap (λ (b : Bool). commentOrMarked s l i || b) (filtered-is i)))
 
   without-filters : (i : ℕ) → o .«main_content» ≡ false → commentOrMarked s l i ≡ leftOutAt s l o i
-  without-filters i off = sym (left-out-split i ∙ ap (λ (b : Bool). commentOrMarked s l i || b) (filtered-off i off) ∙ or-false (commentOrMarked s l i))
-
-  -- the same by filters that are given no marks
-  pub by-unmarked : (left : List Bool) → LeftOutRows s l o left
-      → Agree (flagged left) (leftOut (nodeAt s l) (hidden (λ i. filtered (record { depths = depths s l; node = nodeAt s l; marked = λ j. false; root = l .root }) o i) (pageOf s l) o)) (treeOf (pageOf s l))
-  unfolding filtered filterDepth
-  by-unmarked left a = a
+  without-filters i off = sym (left-out-split false i off ∙ or-false (commentOrMarked s l i))
 
 -- ---- what a row asks for, and what it then is
 

@@ -1,6 +1,6 @@
 -- The Rust's loop hides what the filters leave out: the depth that it counts is the row's less that of the body.
 use mathlib.Core.Path.{_≡_, refl, sym, ap, _∙_}
-use mathlib.Core.Bool.{Bool, true, false, _&&_, _||_, not}
+use mathlib.Core.Bool.{Bool, false, _&&_, _||_, not}
 use mathlib.Core.List.{List, [], _∷_}
 use mathlib.Core.Option.{Option, none, some}
 use Prim.Native.Nat.{ℕ, zero, suc, _+_, _-_}
@@ -39,18 +39,13 @@ module _ (p : Page) where
       go (some q) u more e =
           rw (e, u, baseFrom, bodyFrom) (omega (arith, above-found (p .depths) (getD (p .depths) i 0) i q u .1, more q))
 
-  and-elim : (a b : Bool) → a && b ≡ elim a [ false ↦ false | true ↦ b ]
-  and-elim false b = refl
-  and-elim true b = refl
-
   pub hides-rows : (o : ExtractOptions) → HidesRows p (rustHidden p o) (hidden (filters (p .node) (p .depths) (p .root) o) p o)
   unfolding filtered filterDepth
   hides-rows o i d e =
       let body = getD (p .depths) (bodyFrom (p .node) (p .depths) (getD (p .depths) (p .root) 0) (p .root)) 0 in
       let main : ℕ → Bool = λ k. isMainContent (p .node) (p .depths) o i k in
       let depth : d + baseDepth p ≡ getD (p .depths) i 0 - body = omega (arith, base-steps (getD (p .depths) (p .root) 0) (p .root)) in
-      ap (λ (b : Bool). p .marked i || b)
-      (ap (λ (k : ℕ). o .«main_content» && not (main k)) depth ∙ and-elim (o .«main_content») (not (main (getD (p .depths) i 0 - body))))
+      ap (λ (k : ℕ). p .marked i || (o .«main_content» && not (main k))) depth
 
 -- as long as no entry is refused, the run is the Rust's
 pub going-serialized : (o : ExtractOptions) (es : List Entry) → Going (λ S. S ≡ rustState o es) (serialized o es)

@@ -1,6 +1,6 @@
 -- `theorems` meets its contract.
 use lib.Dec.{lit≤}
-use Rattle.html2text.proofs.AlikeLaws.{same-numbers, same-walk, same-extraction, same-pages-alike}
+use Rattle.html2text.proofs.AlikeLaws.{same-numbers, same-walk, same-extraction, same-pages-alike, same-answers}
 use Rattle.html2text.proofs.BoundLaws.{run-bounded}
 use Rattle.html2text.proofs.Demand3Laws.{demand-3}
 use Rattle.html2text.proofs.EncodedLaws.{text-is-utf8}
@@ -31,7 +31,7 @@ passes = record {
 }
 
 alike : AlikeRight
-alike = record { numbers = same-numbers; walk = same-walk; extraction = same-extraction; page = same-pages-alike }
+alike = record { numbers = same-numbers; walk = same-walk; extraction = same-extraction; page = same-pages-alike; sheets = same-answers }
 
 returns : tie.Need-returns
 returns c = (walk, (passes, (alike, (demand-3, (text-is-utf8, examples-are-right)))))
