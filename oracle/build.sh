@@ -14,7 +14,7 @@ mkdir -p "$made/src/extract" "$made/src/bin"
 cp oracle/rust/Cargo.toml "$made/"
 cp oracle/rust/src/*.rs "$made/src/"
 cp "$sources/html2text.rs" "$sources/filters.rs" "$made/src/extract/"
-cp crates/pattern_vectors/stdin "$made/src/pattern_strings"
+cp tests/vectors/patterns.in "$made/src/pattern_strings"
 cd "$made"
 built() {
     cargo build --quiet --release --offline --config 'source.crates-io.replace-with="debian"' \

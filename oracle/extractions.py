@@ -1,7 +1,7 @@
 #!/usr/bin/env python3
-"""Writes crates/extractions/stdin and stdout: calls of `extract` with lent buffers of every length that matters, and how each buffer
-stands afterwards. The texts of document 01's pages and of the Rust's quirks are those of oracle/pages.py, written by hand; needs and
-numbers are oracle/reference.py's, which agrees with the unchanged Rust on the generated cases (docs/DIFFERENCES.md)."""
+"""Writes tests/vectors/extractions.in and extractions.out: calls of `extract` with lent buffers of every length that matters, and how
+each buffer stands afterwards. The texts of document 01's pages and of the Rust's quirks are those of oracle/pages.py, written by hand;
+needs and numbers are oracle/reference.py's, which agrees with the unchanged Rust on the generated cases (docs/DIFFERENCES.md)."""
 import os
 import sys
 
@@ -12,7 +12,7 @@ import pages
 import reference
 
 ROOM = {"sheet": 262144, "out": 262144, "work": 65536}
-stdin, stdout = bytearray(), bytearray()
+calls, answers = bytearray(), bytearray()
 
 
 def sum_of(s):
@@ -31,14 +31,14 @@ def call(options, parts, out, work, answer, text):
     a, b, times, c = parts
     end = len(a) + times * len(b)
     assert end + len(c) <= ROOM["sheet"] and out <= ROOM["out"] and work <= ROOM["work"]
-    stdin.extend(b"".join(b"%8d" % n for n in (out, work, len(a), len(b), end, end + len(c))) + b"\n" + options.encode() + b"\n" + a + b + c)
+    calls.extend(b"".join(b"%8d" % n for n in (out, work, len(a), len(b), end, end + len(c))) + b"\n" + options.encode() + b"\n" + a + b + c)
     number = answer[0]
     line = "%d %d %d %d " % tuple(answer)
     line += "work %s out " % state(work, "zero" if number in (0, 32) else "unchanged")
     line += "text and zeros\n" if number == 0 else state(out, "unchanged") + "\n"
-    stdout.extend(line.encode())
+    answers.extend(line.encode())
     if number == 0:
-        stdout.extend(text + b"\n" if len(text) <= 200 else b"sum %d \n" % sum_of(text))
+        answers.extend(text + b"\n" if len(text) <= 200 else b"sum %d \n" % sum_of(text))
 
 
 def answered(options, parts, out, work):
@@ -113,9 +113,9 @@ def main():
         answered(options, plain(pages.sheet(deep)), 5000, 5000)
         answered(options, plain(pages.sheet(lists)), 60000, 5000)
     # a sheet's refusals leave both buffers alone
-    folder = os.path.join(os.path.dirname(__file__), "..", "crates", "sheet_verdicts")
-    data, seen = open(os.path.join(folder, "stdin"), "rb").read(), set()
-    for said in open(os.path.join(folder, "stdout")):
+    here = os.path.join(os.path.dirname(__file__), "..", "tests", "vectors")
+    data, seen = open(os.path.join(here, "verdicts.in"), "rb").read(), set()
+    for said in open(os.path.join(here, "verdicts.out")):
         size = int(data[:8])
         sheet, data = data[9:9 + size], data[9 + size:]
         number, second = map(int, said.split())
@@ -124,8 +124,7 @@ def main():
             for out, work in ((100, 100), (0, 0)):
                 call(pages.STANDING, plain(sheet), out, work, [number, second, 0, 0], b"")
     assert seen == set(range(11, 18))
-    here = os.path.join(os.path.dirname(__file__), "..", "crates", "extractions")
-    for name, bytes_ in (("stdin", stdin), ("stdout", stdout)):
+    for name, bytes_ in (("extractions.in", calls), ("extractions.out", answers)):
         with open(os.path.join(here, name), "wb") as f:
             f.write(bytes_)
 

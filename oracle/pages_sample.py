@@ -1,9 +1,9 @@
 #!/usr/bin/env python3
-"""Use: pages_sample.py CANDIDATES COUNTS PROGRAM STDIN
+"""Use: pages_sample.py CANDIDATES COUNTS PROGRAM SAMPLE
 Of the candidates, which cases a sample needs: small ones first, each that meets something new. Something is a region or a
 condition of html2text.rs and filters.rs (oracle/coverage.py), a word of a list, an answer of a pattern or of the link measure, a
 kind of entry in a kind of state of `serialize`, an option line. COUNTS are the counters that PROGRAM, built with counters, wrote
-for the candidates."""
+for the candidates. SAMPLE is written: tests/vectors/replay.in."""
 import sys
 
 import coverage
@@ -137,9 +137,9 @@ def met_by_definitions(case):
     return answer, set(MET)
 
 
-def agreed(stdin, by_rust, answers):
+def agreed(sample, by_rust, answers):
     """The Rust and the definitions say the same of every case, but for icons 1, which the Rust has not, and 31 and 32."""
-    cases, rust, said = (f(open(name, "rb").read()) for f, name in zip((difference.split_cases,) + (difference.split_answers,) * 2, (stdin, by_rust, answers)))
+    cases, rust, said = (f(open(name, "rb").read()) for f, name in zip((difference.split_cases,) + (difference.split_answers,) * 2, (sample, by_rust, answers)))
     same = 0
     for c, a, b in zip(cases, rust, said):
         if int(a[:8]) == 33 and c[9:10] == b"1" or int(b[:8]) in (31, 32):
@@ -152,7 +152,7 @@ def agreed(stdin, by_rust, answers):
 
 
 def inputs():
-    """Inputs with a wrong option line or too long, and one of the greatest length."""
+    """Inputs with a wrong option line, and two of the greatest length that the program takes."""
     right = pages.STANDING.encode() + b"\n"
     for at in range(11):
         yield right[:at]
@@ -160,14 +160,13 @@ def inputs():
     for at in range(11):
         for byte in b"/:" + (b"13" if at == 0 else b"12" if at < 10 else b"\r "):
             yield right[:at] + bytes([byte]) + right[at + 1:] + sheet
-    for length in (MOST, MOST + 1):
-        yield b"0" * length
-        text = b"a" * (length - len(right) - 33 - 65 * 2 - 4)
-        yield right + b"%8d%8d%8d%8d\n" % (2, 0, 4 + len(text), 0) + b"%8d" * 8 % (0, 1, 0, 0, 4, 0, 0, 0) + b"\n" + b"%8d" * 8 % (1, 3, 0, 0, 0, 4, len(text), 0) + b"\nbody" + text
+    yield b"0" * MOST
+    text = b"a" * (MOST - len(right) - 33 - 65 * 2 - 4)
+    yield right + b"%8d%8d%8d%8d\n" % (2, 0, 4 + len(text), 0) + b"%8d" * 8 % (0, 1, 0, 0, 4, 0, 0, 0) + b"\n" + b"%8d" * 8 % (1, 3, 0, 0, 0, 4, len(text), 0) + b"\nbody" + text
 
 
-def add_inputs(stdin):
-    with open(stdin, "ab") as f:
+def add_inputs(sample):
+    with open(sample, "ab") as f:
         for case in inputs():
             f.write(b"%8d\n" % len(case) + case)
 
@@ -177,7 +176,7 @@ def main():
         return add_inputs(sys.argv[2])
     if sys.argv[1] == "--agreed":
         return agreed(*sys.argv[2:5])
-    candidates, counts, program, stdin = sys.argv[1:5]
+    candidates, counts, program, sample = sys.argv[1:5]
     cases = difference.split_cases(open(candidates, "rb").read())
     program = coverage.Program(program)
     watch()
@@ -210,7 +209,7 @@ def main():
                 chosen.append(private)
                 size += len(private) + 9
     print("%d of %d cases, %d bytes, %d things met" % (len(chosen), len(cases), size, len(seen)))
-    with open(stdin, "wb") as f:
+    with open(sample, "wb") as f:
         for case in chosen:
             f.write(b"%8d\n" % len(case) + case)
 

@@ -1,4 +1,4 @@
-// The strings that crates/pattern_vectors reads and the answers that it must print, for oracle/pattern_vectors.sh.
+// The strings that tests/c/patterns.c tries and the answers that it must get, for oracle/pattern_vectors.sh.
 // A string a line; LF inside a string is written as the byte 1. An answer is six hexadecimal digits: bit p says whether
 // the Rust's `matches` finds regex p. The first line is document 01's answer for pattern 21.
 // For each alternative of each regex (a way of a `|`, a part there or not, a byte of a class, ..) the strings have some

@@ -1,5 +1,5 @@
 #!/usr/bin/env bash
-# Writes crates/pattern_vectors/stdin and stdout anew: strings, and what the Rust's `matches` says of each, with the
+# Writes tests/vectors/patterns.in and patterns.out anew: strings, and what the Rust's `matches` says of each, with the
 # regexes of filters.rs unchanged and the regex crate of Debian's librust-regex-dev.
 # Use: oracle/pattern_vectors.sh PATH-OF-filters.rs
 set -eu
@@ -30,4 +30,4 @@ regex = "1"
 T
 debian='source.debian.directory="/usr/share/cargo/registry"'
 (cd "$made" && cargo build --quiet --release --offline --config 'source.crates-io.replace-with="debian"' --config "$debian")
-"$made/target/release/pattern_vectors" crates/pattern_vectors/stdin crates/pattern_vectors/stdout
+"$made/target/release/pattern_vectors" tests/vectors/patterns.in tests/vectors/patterns.out

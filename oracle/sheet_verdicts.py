@@ -1,5 +1,5 @@
 #!/usr/bin/env python3
-"""Writes crates/sheet_verdicts/stdin and stdout: sheets damaged in each way that document 01 names under 11 to 17, each
+"""Writes tests/vectors/verdicts.in and verdicts.out: sheets damaged in each way that document 01 names under 11 to 17, each
 with the number and the second number that the document fixes, written here by hand beside the damage."""
 import os
 
@@ -209,14 +209,14 @@ both((17, 3), text)
 
 
 def main():
-    here = os.path.join(os.path.dirname(os.path.abspath(__file__)), "..", "crates", "sheet_verdicts")
-    with open(os.path.join(here, "stdin"), "wb") as f:
+    here = os.path.join(os.path.dirname(os.path.abspath(__file__)), "..", "tests", "vectors")
+    with open(os.path.join(here, "verdicts.in"), "wb") as f:
         for _, sheet in CASES:
             f.write(b"%8d\n" % len(sheet) + sheet)
-    with open(os.path.join(here, "stdout"), "w") as f:
+    with open(os.path.join(here, "verdicts.out"), "w") as f:
         for (number, second), _ in CASES:
             f.write("%d %d\n" % (number, second))
-    print(len(CASES), "sheets,", os.path.getsize(os.path.join(here, "stdin")), "bytes")
+    print(len(CASES), "sheets,", os.path.getsize(os.path.join(here, "verdicts.in")), "bytes")
 
 
 main()

@@ -1,5 +1,5 @@
 #!/usr/bin/env python3
-"""Writes crates/tree_questions/stdin and stdout: a sheet of a page with nested and childless rows, attributes of one name
+"""Writes tests/vectors/questions.in and questions.out: a sheet of a page with nested and childless rows, attributes of one name
 twice, and the answers to the single-row questions, read off the page's nested lists and not off the sheet."""
 import os
 
@@ -57,7 +57,7 @@ answers[0][2] = relative(None)
 answers.append(["35 %d 0, " % len(rows)] * 5)
 line = lambda numbers: "".join("%8d" % n for n in numbers).encode() + b"\n"
 sheet = b"".join(map(line, [[len(rows), len(attributes), len(pool), 0]] + rows + attributes)) + pool
-here = os.path.join(os.path.dirname(os.path.abspath(__file__)), "..", "crates", "tree_questions")
-open(os.path.join(here, "stdin"), "wb").write(sheet)
-open(os.path.join(here, "stdout"), "w").write("".join("".join(a) + "\n" for a in answers))
+here = os.path.join(os.path.dirname(os.path.abspath(__file__)), "..", "tests", "vectors")
+open(os.path.join(here, "questions.in"), "wb").write(sheet)
+open(os.path.join(here, "questions.out"), "w").write("".join("".join(a) + "\n" for a in answers))
 print(len(rows), "rows,", len(sheet), "bytes")

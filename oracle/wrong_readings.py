@@ -1,5 +1,5 @@
 #!/usr/bin/env python3
-"""Wrong readings of the Rust, each an edit of oracle/reference.py: does the sample of crates/pages_replay tell it from the right one?
+"""Wrong readings of the Rust, each an edit of oracle/reference.py: does the sample tests/vectors/replay.in tell it from the right one?
 Use: wrong_readings.py [NAME]
 Ends with 1 if one of them is not told apart. The last list has edits that no sheet can tell apart."""
 import os
@@ -7,7 +7,7 @@ import subprocess
 import sys
 
 HERE = os.path.dirname(os.path.abspath(__file__))
-SAMPLE = os.path.join(HERE, "..", "crates", "pages_replay")
+SAMPLE = os.path.join(HERE, "..", "tests", "vectors", "replay")
 REFERENCE = os.path.join(HERE, "reference.py")
 
 WRONG = [
@@ -106,12 +106,12 @@ def said(old, new):
         sys.exit("found %d times: %r" % (source.count(old), old))
     code = "import sys\nexec(compile(sys.argv.pop(1), %r, 'exec'), {'__name__': '__main__', '__file__': %r})" % (REFERENCE, REFERENCE)
     command = [sys.executable, "-c", code, source.replace(old, new), "--program"]
-    with open(os.path.join(SAMPLE, "stdin"), "rb") as cases:
+    with open(SAMPLE + ".in", "rb") as cases:
         return subprocess.run(command, stdin=cases, stdout=subprocess.PIPE, stderr=subprocess.DEVNULL)
 
 
 def main():
-    right = open(os.path.join(SAMPLE, "stdout"), "rb").read()
+    right = open(SAMPLE + ".out", "rb").read()
     missed = 0
     for told, edits in ((True, WRONG), (False, SAME)):
         for name, old, new in edits:
