@@ -34,6 +34,16 @@ poolStart l = attributeStart l (l .attributes)
 abbrev pub sizeOf : Layout → ℕ
 sizeOf l = poolStart l + l .pool
 
+-- "N 1 to 20,000; A to 60,000", "depth to 500"
+abbrev pub mostRows : ℕ
+mostRows = 20000
+
+abbrev pub mostAttributes : ℕ
+mostAttributes = 60000
+
+abbrev pub mostDepth : ℕ
+mostDepth = 500
+
 -- "P to 4,194,304", at every width
 abbrev pub poolLimit : ℕ → ℕ
 poolLimit w = 4194304
