@@ -31,6 +31,10 @@ pub record GoesOn (R : Run) (peak : ℕ) : Type 0 where
 abbrev pub namesNeed : Page → ExtractOptions → ℕ
 namesNeed p o = cond (o .«main_content») (longestNames (p .node) (length (p .depths))) 0
 
+-- the most rows for which the short columns are taken
+abbrev pub fewRows : ℕ
+fewRows = 256
+
 -- the same of a page, where `filtered` says which rows are filtered out
 pub record Extracts (filtered : ℕ → Bool) (p : Page) (o : ExtractOptions) (out work : Bytes) (r : Extraction) (out′ work′ : Bytes) : Type 0 where
   pub answer : r ≡ extraction filtered p o (length out) (length work)

@@ -7,7 +7,9 @@ use writing::pass;
 ghost use mathlib.Core.Path.{_≡_};
 ghost use Prim.Native.Nat.{_<_};
 ghost use lib.ListN.{length};
+ghost use Rattle.html2text.specs.Extract.{mostLevels, mostOpenRows};
 ghost use Rattle.html2text.specs.Fused.{closed};
+ghost use Rattle.sheet.specs.Layout.{mostDepth};
 ghost use Rattle.visits.specs.Visiting.{Noted, Walked, passesOf, runOf};
 ghost use Rattle.writer.specs.Out.{greater};
 ghost use Rattle.extract.specs.Concluding.{Concludes, GoesOn};
@@ -33,7 +35,7 @@ fn fill(
     work: &mut [u8],
 ) -> Extraction
     requires { ⌜ Noted (now s) l (now depths) (now tags) (now attributes) (now values) (now lengths) ⌝ }
-    requires { ⌜ Walked (now s) l o (now left) × (500 < length (now stack)) × (length (now numbering) ≡ 1024) × (length (now cells) ≡ 1024) ⌝ }
+    requires { ⌜ Walked (now s) l o (now left) × (mostDepth < length (now stack)) × (length (now numbering) ≡ mostLevels) × (length (now cells) ≡ mostOpenRows) ⌝ }
     requires { ⌜ GoesOn (closed o (runOf (now s) l o (now left))) peak ⌝ }
     ensures { λ r. ⌜ Concludes need visits (closed o (runOf (now (s .entry)) l o (now (left .entry)))) (now (out .entry)) (now (work .entry)) r (now (out .exit)) (now (work .exit)) ⌝ }
 {
@@ -95,7 +97,7 @@ pub fn extract_rows(
     work: &mut [u8],
 ) -> Extraction
     requires { ⌜ Noted (now s) l (now depths) (now tags) (now attributes) (now values) (now lengths) ⌝ }
-    requires { ⌜ Walked (now s) l o (now left) × (500 < length (now stack)) × (length (now numbering) ≡ 1024) × (length (now cells) ≡ 1024) ⌝ }
+    requires { ⌜ Walked (now s) l o (now left) × (mostDepth < length (now stack)) × (length (now numbering) ≡ mostLevels) × (length (now cells) ≡ mostOpenRows) ⌝ }
     ensures { λ r. ⌜ Concludes (greater (runOf (now (s .entry)) l o (now (left .entry)) .note .peak) names) (length (passesOf (now (s .entry)) l (now (left .entry)))) (closed o (runOf (now (s .entry)) l o (now (left .entry)))) (now (out .entry)) (now (work .entry)) r (now (out .exit)) (now (work .exit)) ⌝ }
 {
     let measured = pass(

@@ -2,8 +2,12 @@
 // the passes follow.
 use crate::passes::extract_rows;
 use html2text::Extraction;
+use html2text::MOST_LEVELS;
+use html2text::MOST_OPEN_ROWS;
 use left_out::decide;
 use options::ExtractOptions;
+use sheet::limits::MOST_DEPTH;
+use sheet::limits::MOST_ROWS;
 use sheet::line::Layout;
 use sheet::verdict::is_whole;
 use sheet::verdict::judge;
@@ -13,11 +17,16 @@ ghost use mathlib.Core.Path.{_≡_};
 ghost use Prim.Native.Nat.{_≤_, _<_};
 ghost use lib.ListN.{length};
 ghost use Rattle.filters.specs.Filters.{filtered};
+ghost use Rattle.html2text.specs.Extract.{mostLevels, mostOpenRows};
 ghost use Rattle.sheet.specs.Accepted.{Accepted};
+ghost use Rattle.sheet.specs.Layout.{mostDepth};
 ghost use Rattle.sheet.specs.Notes.{Sized, Whole};
 ghost use Rattle.tree.specs.Page.{nodeAt, pageOf};
 ghost use Rattle.walk.specs.Rows.{Columns, RowsRead};
-ghost use Rattle.extract.specs.Concluding.{Answers, Extracts, namesNeed};
+ghost use Rattle.extract.specs.Concluding.{Answers, Extracts, fewRows, namesNeed};
+
+// The most rows for which the short columns are taken.
+const FEW_ROWS: usize = 256;
 
 // What work must hold beside the entries' texts.
 fn names_need(s: &[u8], l: Layout, o: ExtractOptions) -> usize
@@ -49,7 +58,7 @@ fn extract_columns(
 ) -> Extraction
     requires { ⌜ Accepted (now s) l × Columns (l .nodes) (now depths) (now tags) (now attributes) (now values) (now lengths) (now left) ⌝ }
     requires { ⌜ RowsRead (now s) l (l .nodes) (now depths) (now tags) (now attributes) (now values) (now lengths) (now left) ⌝ }
-    requires { ⌜ (500 < length (now stack)) × (length (now numbering) ≡ 1024) × (length (now cells) ≡ 1024) ⌝ }
+    requires { ⌜ (mostDepth < length (now stack)) × (length (now numbering) ≡ mostLevels) × (length (now cells) ≡ mostOpenRows) ⌝ }
     ensures { λ r. ⌜ Extracts (filtered (pageOf (now (s .entry)) l) o) (pageOf (now (s .entry)) l) o (now (out .entry)) (now (work .entry)) r (now (out .exit)) (now (work .exit)) ⌝ }
 {
     let nodes = l.nodes;
@@ -75,7 +84,7 @@ fn extract_columns(
     )
 }
 
-// A page of few rows, for which long columns need not be cleared.
+// A page of few rows, for which long columns need not be cleared. The stack has a place for each depth from 0 on.
 fn extract_small(
     s: &[u8],
     l: Layout,
@@ -84,18 +93,18 @@ fn extract_small(
     out: &mut [u8],
     work: &mut [u8],
 ) -> Extraction
-    requires { ⌜ Sized (now s) l × Whole (now s) l whole × (l .nodes ≤ 256) ⌝ }
+    requires { ⌜ Sized (now s) l × Whole (now s) l whole × (l .nodes ≤ fewRows) ⌝ }
     ensures { λ r. ⌜ Answers (now (s .entry)) l o (now (out .entry)) (now (work .entry)) r (now (out .exit)) (now (work .exit)) ⌝ }
 {
-    let mut depths = [0u16; 256];
-    let mut tags = [0u8; 256];
-    let mut attributes = [0u32; 256];
-    let mut values = [0u32; 256];
-    let mut lengths = [0u32; 256];
-    let mut left = [false; 256];
-    let mut stack = [0usize; 501];
-    let mut numbering = [0usize; 1024];
-    let mut cells = [false; 1024];
+    let mut depths = [0u16; FEW_ROWS];
+    let mut tags = [0u8; FEW_ROWS];
+    let mut attributes = [0u32; FEW_ROWS];
+    let mut values = [0u32; FEW_ROWS];
+    let mut lengths = [0u32; FEW_ROWS];
+    let mut left = [false; FEW_ROWS];
+    let mut stack = [0usize; MOST_DEPTH + 1];
+    let mut numbering = [0usize; MOST_LEVELS];
+    let mut cells = [false; MOST_OPEN_ROWS];
     if !take_rows(
         s,
         l,
@@ -127,7 +136,7 @@ fn extract_small(
     )
 }
 
-// "N 1 to 20,000", "depth to 500; list levels to 1,024; open rows to 1,024"
+// A page of any number of rows.
 fn extract_large(
     s: &[u8],
     l: Layout,
@@ -139,15 +148,15 @@ fn extract_large(
     requires { ⌜ Sized (now s) l × Whole (now s) l whole ⌝ }
     ensures { λ r. ⌜ Answers (now (s .entry)) l o (now (out .entry)) (now (work .entry)) r (now (out .exit)) (now (work .exit)) ⌝ }
 {
-    let mut depths = [0u16; 20000];
-    let mut tags = [0u8; 20000];
-    let mut attributes = [0u32; 20000];
-    let mut values = [0u32; 20000];
-    let mut lengths = [0u32; 20000];
-    let mut left = [false; 20000];
-    let mut stack = [0usize; 501];
-    let mut numbering = [0usize; 1024];
-    let mut cells = [false; 1024];
+    let mut depths = [0u16; MOST_ROWS];
+    let mut tags = [0u8; MOST_ROWS];
+    let mut attributes = [0u32; MOST_ROWS];
+    let mut values = [0u32; MOST_ROWS];
+    let mut lengths = [0u32; MOST_ROWS];
+    let mut left = [false; MOST_ROWS];
+    let mut stack = [0usize; MOST_DEPTH + 1];
+    let mut numbering = [0usize; MOST_LEVELS];
+    let mut cells = [false; MOST_OPEN_ROWS];
     if !take_rows(
         s,
         l,
@@ -191,7 +200,7 @@ pub fn extract_sized(
     ensures { λ r. ⌜ Answers (now (s .entry)) l o (now (out .entry)) (now (work .entry)) r (now (out .exit)) (now (work .exit)) ⌝ }
 {
     let whole = is_whole(s, l);
-    if l.nodes <= 256 {
+    if l.nodes <= FEW_ROWS {
         return extract_small(s, l, whole, o, out, work);
     }
     if whole {

@@ -10,6 +10,7 @@ use lib.ListN.{getD, length, length-take}
 use borrow.Author.Tests.{eq-eqb, ne-eqb}
 use Rattle.common.specs.Bytes.{Bytes}
 use Rattle.sheet.specs.Accepted.{Accepted}
+use Rattle.sheet.specs.Layout.{poolLimit}
 use Rattle.sheet.specs.declared.line.Layout.{Layout}
 use Rattle.tags.specs.Words.{oneOf}
 use Rattle.text.specs.Text.{trim, trimBy, trimStartBy, rstripBy}
@@ -23,7 +24,7 @@ module _ (s : Bytes) (l : Layout) where
   absent-among len ws h e = rw h (sym e)
 
 -- a value is at most the pool
-pub slot-short : (s : Bytes) (l : Layout) → Accepted s l → (at len : ℕ) → SlotInside l at len → {v : Bytes} → v ≡ slotValue s l at len → length v ≤ 4194304
+pub slot-short : (s : Bytes) (l : Layout) → Accepted s l → (at len : ℕ) → SlotInside l at len → {v : Bytes} → v ≡ slotValue s l at len → length v ≤ poolLimit (l .width)
 slot-short s l a zero len h e = rw e (omega arith)
 slot-short s l a (suc at) len h e = rw e (simp length-take (omega (arith, a .sized .pool)))
 

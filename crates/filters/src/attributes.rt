@@ -8,6 +8,7 @@ ghost use Prim.Native.Nat.{_+_, _≤_, _<_};
 ghost use lib.ListN.{getD, length, replicate};
 ghost use Rattle.common.specs.Bytes.{same};
 ghost use Rattle.sheet.specs.Accepted.{Accepted};
+ghost use Rattle.sheet.specs.Layout.{poolLimit};
 ghost use Rattle.filters.specs.Gathered.{attributeNumber, Readable, slotValue, SlotInside, Slots};
 
 // The number of a word that a name may be.
@@ -92,7 +93,7 @@ pub fn held<'a, 'b, 'c>(
     k: usize,
 ) -> &'a [u8]
     requires { ⌜ Accepted (now s) l × Readable l (now starts) (now lengths) × (k < 13) ⌝ }
-    ensures { λ r. ⌜ (now r ≡ slotValue (now (s .entry)) l (getD (now (starts .entry)) k 0) (getD (now (lengths .entry)) k 0)) × (length (now r) ≤ 4194304) ⌝ }
+    ensures { λ r. ⌜ (now r ≡ slotValue (now (s .entry)) l (getD (now (starts .entry)) k 0) (getD (now (lengths .entry)) k 0)) × (length (now r) ≤ poolLimit (l .width)) ⌝ }
 {
     value(s, l, starts[k], lengths[k])
 }

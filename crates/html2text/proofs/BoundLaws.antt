@@ -18,7 +18,7 @@ use Rattle.writer.specs.Out.{Out, pushAll}
 use Rattle.writer.proofs.OutLaws.{greater-max, push-all-text, push-all-peak}
 use Rattle.html2text.specs.Bounds.{mostEvents, mostWritten, beside, Going, StateWithin, FusedWithin, Each, AddsAtMost, RunWithin, StateBounded, Bounded, Adds, EachAdds, RunBounded}
 use Rattle.html2text.specs.Collect.{Event, Entry, tagNumber, preDepth, added}
-use Rattle.html2text.specs.Extract.{passesLevels, passesRows}
+use Rattle.html2text.specs.Extract.{mostLevels, mostOpenRows, passesLevels, passesRows}
 use Rattle.html2text.specs.Fused.{Fused, idle, closed, openEntry, pushesOn, emptied, opened, grown, fed, fedAll}
 use Rattle.html2text.specs.Levels.{recounted, depthAfter}
 use Rattle.html2text.specs.Serialize.{State, changesLevel, step}
@@ -43,13 +43,13 @@ below-fed o e F h =
 
 -- ---- list depth and open rows: a step that would pass is refused
 
-recounted-low : (counts end : Bool) (k : ℕ) → k ≤ 1024 → (counts && (not end && leb 1024 k)) ≡ false → recounted counts end k ≤ 1024
-recounted-low true true k h e = omega arith
-recounted-low true false k h e = omega (arith, leb-false 1024 k e)
-recounted-low false end k h e = h
+recounted-low : (most : ℕ) (counts end : Bool) (k : ℕ) → k ≤ most → (counts && (not end && leb most k)) ≡ false → recounted counts end k ≤ most
+recounted-low most true true k h e = omega arith
+recounted-low most true false k h e = omega (arith, leb-false most k e)
+recounted-low most false end k h e = h
 
-depth-low : (f : Formatting) (n : ExtractNode) (S : State) → passesLevels f n S ≡ false → S .depth ≤ 1024 → depthAfter f n (S .depth) ≤ 1024
-depth-low f n S e h = recounted-low (not (isOff f) && changesLevel (n .tag) (S .depth)) (n .end) (S .depth) h (turned (not (isOff f)) (n .end) (changesLevel (n .tag) (S .depth)) (leb 1024 (S .depth)) e)
+depth-low : (f : Formatting) (n : ExtractNode) (S : State) → passesLevels f n S ≡ false → S .depth ≤ mostLevels → depthAfter f n (S .depth) ≤ mostLevels
+depth-low f n S e h = recounted-low mostLevels (not (isOff f) && changesLevel (n .tag) (S .depth)) (n .end) (S .depth) h (turned (not (isOff f)) (n .end) (changesLevel (n .tag) (S .depth)) (leb mostLevels (S .depth)) e)
   where
     turned : (on end c l : Bool) → (on && (not end && (c && l))) ≡ false → ((on && c) && (not end && l)) ≡ false
     turned true true true l e = e
@@ -72,13 +72,13 @@ module _ (f : Formatting) (bullets : Bool) (e : Entry) {k most : ℕ} (few : k �
         numbers = w .numbers;
         numbering = q .numbering (h .numbering);
         depth = omega (arith, q .depth, depth-low f (e .node) S levels (h .depth));
-        rows = omega (arith, q .rows, recounted-low (isTr (e .node .tag)) (e .node .end) (length (S .rowHasCell)) (h .rows) rows);
+        rows = omega (arith, q .rows, recounted-low mostOpenRows (isTr (e .node .tag)) (e .node .end) (length (S .rowHasCell)) (h .rows) rows);
         prefix = w .short;
         below = w .below;
         peak = omega (arith, w .low-peak, h .peak);
       }
     where
-      within : Within (4 * k) k (k + 1) 1024 (S .out .peak) S
+      within : Within (4 * k) k (k + 1) mostLevels (S .out .peak) S
       within =
           record {
             low-margins = h .margins;

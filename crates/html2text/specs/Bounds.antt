@@ -8,17 +8,18 @@ use lib.ListN.{length, getD}
 use Rattle.common.specs.Answer.{Answer}
 use Rattle.common.specs.Bytes.{Bytes}
 use Rattle.options.specs.declared.ExtractOptions.{ExtractOptions}
+use Rattle.sheet.specs.Layout.{mostRows}
 use Rattle.sheet.specs.declared.line.Layout.{Layout}
 use Rattle.tree.specs.Page.{widestPool, nodeAt, pageOf}
 use Rattle.html2text.specs.Collect.{Event, added}
-use Rattle.html2text.specs.Extract.{Run, going, tooManyLevels, tooManyRows}
+use Rattle.html2text.specs.Extract.{Run, going, tooManyLevels, tooManyRows, mostLevels, mostOpenRows}
 use Rattle.html2text.specs.Fused.{Fused, idle, closed, fedAll}
 use Rattle.html2text.specs.Serialize.{State}
 use Rattle.html2text.specs.Walk.{events, treeOf}
 
--- twice the most rows of a sheet
+-- two events a row
 abbrev pub mostEvents : ℕ
-mostEvents = 40000
+mostEvents = 2 * mostRows
 
 -- six times the longest pool, and what a link has beside its address
 abbrev pub mostAdded : ℕ
@@ -26,7 +27,7 @@ mostAdded = 6 * widestPool + 11
 
 -- what a step after k entries can write beside its text: margins, indents, marks and tags
 abbrev pub beside : ℕ → ℕ
-beside k = 20 * k + 6227
+beside k = 20 * k + 6 * mostLevels + 83
 
 -- six times that, and what a step writes beside its text
 abbrev pub mostWritten : ℕ
@@ -44,8 +45,8 @@ pub record StateWithin (k most held : ℕ) (S : State) : Type 0 where
   pub uncollapsed : S .uncollapsed ≤ k
   pub numbers : (i : ℕ) → getD (S .numbering) i 0 ≤ k + 1
   pub numbering : S .depth ≡ length (S .numbering)
-  pub depth : S .depth ≤ 1024
-  pub rows : length (S .rowHasCell) ≤ 1024
+  pub depth : S .depth ≤ mostLevels
+  pub rows : length (S .rowHasCell) ≤ mostOpenRows
   pub prefix : length (S .prefix) ≤ 12
   pub below : length (S .out .text) ≤ S .out .peak
   pub peak : S .out .peak + 6 * held ≤ most

@@ -33,16 +33,23 @@ pub data Run : Type 0 where
   tooManyLevels : ℕ → Run
   tooManyRows : ℕ → Run
 
+-- "list levels to 1,024; open rows to 1,024"
+abbrev pub mostLevels : ℕ
+mostLevels = 1024
+
+abbrev pub mostOpenRows : ℕ
+mostOpenRows = 1024
+
 -- "21: list depth would pass 1,024. Formatting Off never counts it."
 abbrev pub depthPasses : Formatting → ExtractNode → ℕ → Bool
-depthPasses f n depth = not (isOff f) && (not (n .end) && (changesLevel (n .tag) depth && leb 1024 depth))
+depthPasses f n depth = not (isOff f) && (not (n .end) && (changesLevel (n .tag) depth && leb mostLevels depth))
 
 abbrev pub passesLevels : Formatting → ExtractNode → State → Bool
 passesLevels f n S = depthPasses f n (S .depth)
 
 -- "22: open table rows would pass 1,024."
 abbrev pub rowsPass : ExtractNode → ℕ → Bool
-rowsPass n rows = isTr (n .tag) && (not (n .end) && leb 1024 rows)
+rowsPass n rows = isTr (n .tag) && (not (n .end) && leb mostOpenRows rows)
 
 abbrev pub passesRows : ExtractNode → State → Bool
 passesRows n S = rowsPass n (length (S .rowHasCell))

@@ -3,6 +3,11 @@ pub mod theorems;
 
 use sheet::verdict::Verdict;
 
+// "list levels to 1,024; open rows to 1,024"
+pub const MOST_LEVELS: usize = 1024;
+
+pub const MOST_OPEN_ROWS: usize = 1024;
+
 // `ExtractNode` of html2text.rs, with the number of its tag, and without its text.
 pub struct ExtractNode {
     pub depth: usize,

@@ -14,7 +14,7 @@ use Rattle.html2text.specs.Walk.{isComment}
 use Rattle.options.specs.declared.ExtractOptions.{ExtractOptions}
 use Rattle.sheet.specs.Accepted.{Accepted}
 use Rattle.sheet.specs.Column.{parentOf}
-use Rattle.sheet.specs.Layout.{depths}
+use Rattle.sheet.specs.Layout.{mostDepth, depths}
 use Rattle.sheet.specs.declared.line.Layout.{Layout}
 use Rattle.sheet.proofs.LayoutLaws.{depths-at, depths-from-length}
 use Rattle.tree.specs.Node.{Node}
@@ -74,8 +74,8 @@ module _ {s : Bytes} {l : Layout} {column tags attributes : List ℕ} (n : Noted
   pub column-well-formed : WellFormed column
   column-well-formed = rw (n .depths-are) (well-formed (n .accepted))
 
-  -- no row is deeper than 500
-  pub column-fits : (stack : List ℕ) → 500 < length stack → Fits column stack
+  -- no row is deeper than `mostDepth`
+  pub column-fits : (stack : List ℕ) → mostDepth < length stack → Fits column stack
   column-fits stack h =
       record {
         place = λ i m.

@@ -14,7 +14,7 @@ ghost use Rattle.filters.specs.Filters.{isMainContent};
 ghost use Rattle.filters.specs.Footer.{Above};
 ghost use Rattle.filters.specs.Sheet.{tagNumber};
 ghost use Rattle.sheet.specs.Accepted.{Accepted};
-ghost use Rattle.sheet.specs.Layout.{depths};
+ghost use Rattle.sheet.specs.Layout.{depths, mostDepth};
 ghost use Rattle.sheet.specs.Verdict.{countsFrom};
 ghost use Rattle.tree.specs.Page.{nodeAt};
 ghost use Rattle.tree.specs.Rows.{WellFormed};
@@ -109,7 +109,7 @@ fn decide_tree(
     left: &mut [bool],
     stack: &mut [usize],
 )
-    requires { ⌜ Tables (now steps) (now masks) × Noted (now s) l (now depths) (now tags) (now attributes) × MarksNoted (now s) l (now left) × (500 < length (now stack)) ⌝ }
+    requires { ⌜ Tables (now steps) (now masks) × Noted (now s) l (now depths) (now tags) (now attributes) × MarksNoted (now s) l (now left) × (mostDepth < length (now stack)) ⌝ }
     requires { ⌜ (o .«main_content» ≡ true) × (base ≡ bodyDepth (now s) l) ⌝ }
     ensures { λ r. ⌜ LeftOutRows (now (s .entry)) l o (now (left .exit)) ⌝ }
 {
@@ -162,7 +162,7 @@ pub fn decide(
     left: &mut [bool],
     stack: &mut [usize],
 )
-    requires { ⌜ Noted (now s) l (now depths) (now tags) (now attributes) × MarksNoted (now s) l (now left) × (500 < length (now stack)) ⌝ }
+    requires { ⌜ Noted (now s) l (now depths) (now tags) (now attributes) × MarksNoted (now s) l (now left) × (mostDepth < length (now stack)) ⌝ }
     ensures { λ r. ⌜ LeftOutRows (now (s .entry)) l o (now (left .exit)) × (length (now (left .exit)) ≡ length (now (left .entry))) ⌝ }
 {
     if o.main_content {

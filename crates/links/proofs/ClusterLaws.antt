@@ -9,7 +9,7 @@ use borrow.Author.Tests.{lt-ltb, eq-eqb, ne-eqb}
 use Rattle.common.specs.Answer.{Answer, refused}
 use Rattle.common.specs.Bytes.{Bytes}
 use Rattle.common.proofs.Choice.{by-test}
-use Rattle.sheet.specs.Layout.{rowAt, depths}
+use Rattle.sheet.specs.Layout.{mostRows, rowAt, depths}
 use Rattle.sheet.specs.declared.line.Layout.{Layout}
 use Rattle.sheet.specs.declared.line.Row.{Row}
 use Rattle.tree.specs.Node.{element, Node}
@@ -32,7 +32,7 @@ use Rattle.links.proofs.MeasureLaws.{measure-too-long}
 
 module _ (rule : Rule) where
   -- a text beyond, though it is small, is beyond a limit
-  limit-is : (n : ℕ) → n ≤ 20000 * widestPool → mostOf rule < n → (ltb 0 (rule .limit) ≡ true) × (mostOf rule ≡ rule .limit)
+  limit-is : (n : ℕ) → n ≤ mostRows * widestPool → mostOf rule < n → (ltb 0 (rule .limit) ≡ true) × (mostOf rule ≡ rule .limit)
   limit-is n small g =
       by-test (ltb 0 (rule .limit))
       (λ t. (t, rw t))
@@ -41,7 +41,7 @@ module _ (rule : Rule) where
   too-long : (n : ℕ) → ltb 0 (rule .limit) ≡ true → rule .limit < n → isTooLong rule n ≡ true
   too-long n t g = rw (t, lt-ltb (rule .limit) n g)
 
-  pub measure-counts : {nodeOf : ℕ → Node} {depths : List ℕ} {i : ℕ} {r : Counts} → CountsUpTo (mostOf rule) nodeOf depths i r → textBytes nodeOf depths i ≤ 20000 * widestPool
+  pub measure-counts : {nodeOf : ℕ → Node} {depths : List ℕ} {i : ℕ} {r : Counts} → CountsUpTo (mostOf rule) nodeOf depths i r → textBytes nodeOf depths i ≤ mostRows * widestPool
       → measureOf rule (r .text) (r .links) ≡ measureOf rule (textBytes nodeOf depths i) (linkBytes nodeOf depths i)
   measure-counts {nodeOf} {depths} {i} {r} k small =
       let n = textBytes nodeOf depths i in

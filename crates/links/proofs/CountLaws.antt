@@ -9,7 +9,7 @@ use native.Mathlib.Numerals.{add-one}
 use lib.ListN.{length, getD, set, replicate, length-set, length-replicate}
 use Rattle.common.specs.Bytes.{Bytes}
 use Rattle.sheet.specs.Accepted.{Accepted}
-use Rattle.sheet.specs.Layout.{rowAt, depths}
+use Rattle.sheet.specs.Layout.{mostRows, mostDepth, rowAt, depths}
 use Rattle.sheet.specs.declared.line.Layout.{Layout}
 use Rattle.sheet.specs.declared.line.Row.{Row}
 use Rattle.text.specs.Text.{isSpace, squeezed, collapseFrom, spaceAfter, collapse, collapseBy}
@@ -88,7 +88,7 @@ module _ (n : Node) (depth : ℕ) (c : Counting) (around : List ℕ) {low : ℕ}
 
   pub row-room : {t : Bytes} → textData n ≡ t → Room n depth c around
       → let k = withText (record { text = c .text; links = c .links; space = c .space; low = low }) depth (getD around depth 0) (getD around low 0) t in
-      (getD around low 0 ≤ getD around depth 0) × (k .text ≤ 20000 * widestPool) × (k .links ≤ 500 * (20000 * widestPool))
+      (getD around low 0 ≤ getD around depth 0) × (k .text ≤ mostRows * widestPool) × (k .links ≤ mostDepth * (mostRows * widestPool))
   row-room {t} e r =
       let q = row-text e refl refl refl in
       (rw low-is (r .ordered), rw q (r .text), rw q (r .links))
@@ -105,14 +105,14 @@ zeros zero e = refl
 zeros (suc n) zero = refl
 zeros (suc n) (suc e) = zeros n e
 
-pub zeros-size : {around : List ℕ} → around ≡ replicate 502 0 → length around ≡ 502
-zeros-size e = ap length e ∙ length-replicate {A = ℕ} 502 0
+pub zeros-size : {around : List ℕ} → around ≡ replicate (mostDepth + 2) 0 → length around ≡ mostDepth + 2
+zeros-size e = ap length e ∙ length-replicate {A = ℕ} (mostDepth + 2) 0
 
 -- ---- the sums stay small
 
 module _ {s : Bytes} {l : Layout} (a : Accepted s l) where
-  pub links-small : (i : ℕ) → i < l .nodes → linkBytes (nodeAt s l) (depths s l) i ≤ 500 * (20000 * widestPool)
-  links-small i h = le-trans (counts-bounded s l a i h .1) (mul-le-mul-left 500 (whole-small a))
+  pub links-small : (i : ℕ) → i < l .nodes → linkBytes (nodeAt s l) (depths s l) i ≤ mostDepth * (mostRows * widestPool)
+  links-small i h = le-trans (counts-bounded s l a i h .1) (mul-le-mul-left mostDepth (whole-small a))
 
   -- ---- the pass: row i at depth d is measured, row j is the next
 
@@ -137,8 +137,8 @@ module _ {s : Bytes} {l : Layout} (a : Accepted s l) where
       pass-stop most n = exact most (counted-stop (nodeAt s l) (depths s l) (well-formed a) i k (r .depth) (below-length s l j g) depth-here (omega arith))
 
       -- one that stands below row i
-      module _ (size : length around ≡ 502) (deeper : d < r .depth) where
-        deep : r .depth ≤ 500
+      module _ (size : length around ≡ mostDepth + 2) (deeper : d < r .depth) where
+        deep : r .depth ≤ mostDepth
         deep = rw r-is (depth-small s l a j g)
 
         next : Counted (nodeAt s l) (depths s l) i (j + 1) (countRow (nodeAt s l j) (r .depth) c around) (aroundAfter (nodeAt s l j) (r .depth) around)
@@ -158,5 +158,5 @@ module _ {s : Bytes} {l : Layout} (a : Accepted s l) where
             }
 
         pub pass-more : {n : Counting} {after : List ℕ} → n ≡ countRow (nodeAt s l j) (r .depth) c around → after ≡ aroundAfter (nodeAt s l j) (r .depth) around
-            → (length after ≡ 502) × Counted (nodeAt s l) (depths s l) i (j + 1) n after
+            → (length after ≡ mostDepth + 2) × Counted (nodeAt s l) (depths s l) i (j + 1) n after
         pass-more p q = (ap length q ∙ simp length-set size, rw (p, q) next)

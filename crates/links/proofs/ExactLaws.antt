@@ -11,7 +11,7 @@ use borrow.Author.Tests.{lt-ltb, le-ltb, ltb-true, ltb-false, eqb-true, eqb-fals
 use Rattle.common.proofs.Choice.{by-test, absurd-test}
 use Rattle.quotient.specs.Quotient.{quotient, fifth, threeFifths}
 use Rattle.quotient.proofs.QuotientLaws.{quotient-lt, fifth-is, threeFifths-is}
-use Rattle.sheet.specs.Layout.{depths}
+use Rattle.sheet.specs.Layout.{mostRows, depths}
 use Rattle.tree.specs.Page.{widestPool, nodeAt}
 use Rattle.tree.proofs.TextLengths.{length-small}
 use Rattle.links.specs.Exact.{Possible, saysYes, RulesAreExact, ElementsAreExact}
@@ -33,7 +33,7 @@ module _ (rule : Rule) (c d : ℕ) (ratio : rule .ratio ≡ quotient c d) (prope
   share-exact h =
       ap (λ (q : Float). lt q (quotient links total)) ratio
       ∙ quotient-lt links total c d h positive (le-trans (p .links-most) (lit≤ tt)) proper
-      (lt-of-le-of-lt (le-trans (mul-le-mul-right d (p .total-most)) (mul-le-mul-left (20000 * widestPool) small)) (lit< tt))
+      (lt-of-le-of-lt (le-trans (mul-le-mul-right d (p .total-most)) (mul-le-mul-left (mostRows * widestPool) small)) (lit< tt))
       ∙ ap (ltb (c * total)) (mul-comm links d)
 
   yes-at : 0 < total → 0 < links → isTooLong rule total ≡ false → saysYes rule total links ≡ ltb (c * total) (d * links)

@@ -9,7 +9,7 @@ use native.Mathlib.Numerals.{add-one}
 use lib.ListN.{length, getD, drop, length-append}
 use Rattle.common.proofs.Choice.{by-test}
 use Rattle.sheet.specs.Accepted.{Accepted}
-use Rattle.sheet.specs.Layout.{depths}
+use Rattle.sheet.specs.Layout.{mostDepth, depths}
 use Rattle.sheet.proofs.LayoutLaws.{depths-from-length, depths-at}
 use Rattle.text.specs.Text.{isSpace}
 use Rattle.text.proofs.CollapseLaws.{collapse-from-length}
@@ -143,5 +143,5 @@ pub counts-bounded : CountsBounded
 counts-bounded s l a i h =
     let d = depths s l in
     let rows : length d ≡ l .nodes = depths-from-length s l 0 (l .nodes) in
-    let deep : (k : ℕ) → k < length d → getD d k 0 ≤ 500 = λ k g. let m : k < l .nodes = omega arith in omega (arith, depths-at s l k m, depth-small s l a k m) in
-    (length-in-pool a i h, le-trans (links-by-depth (nodeAt s l) d (well-formed a) 500 deep i) (mul-le-mul-left 500 (below-small a i h)))
+    let deep : (k : ℕ) → k < length d → getD d k 0 ≤ mostDepth = λ k g. let m : k < l .nodes = omega arith in omega (arith, depths-at s l k m, depth-small s l a k m) in
+    (length-in-pool a i h, le-trans (links-by-depth (nodeAt s l) d (well-formed a) mostDepth deep i) (mul-le-mul-left mostDepth (below-small a i h)))

@@ -7,6 +7,7 @@ use Prim.Native.Nat.{ℕ, suc, _+_, _-_, _*_, _^_, _≤_, _<_, min}
 use lib.Dec.{ltb}
 use lib.ListN.{length, getD, set}
 use Rattle.common.specs.Bytes.{Bytes}
+use Rattle.sheet.specs.Layout.{mostRows, mostDepth}
 use Rattle.text.specs.Text.{isSpace, collapseFrom, spaceAfter, collapse}
 use Rattle.tree.specs.Node.{Node}
 use Rattle.tree.specs.Page.{widestPool}
@@ -45,14 +46,14 @@ oneMoreIf false n = n
 abbrev pub aroundAfter : Node → ℕ → List ℕ → List ℕ
 aroundAfter n depth around = set around (suc depth) (oneMoreIf (isLink n) (getD around depth 0))
 
--- what the step asks: the array has a place for each depth and one more, and the counts stay small
+-- what the step asks: the array has a place for each depth from 0 to `mostDepth` and one more, and the counts stay small
 pub record Room (n : Node) (depth : ℕ) (c : Counting) (around : List ℕ) : Type 0 where
-  pub deep : depth ≤ 500
-  pub size : length around ≡ 502
+  pub deep : depth ≤ mostDepth
+  pub size : length around ≡ mostDepth + 2
   pub ordered : getD around (min (c .low) depth) 0 ≤ getD around depth 0
-  pub few : getD around depth 0 ≤ 20000
-  pub text : countRow n depth c around .text ≤ 20000 * widestPool
-  pub links : countRow n depth c around .links ≤ 500 * (20000 * widestPool)
+  pub few : getD around depth 0 ≤ mostRows
+  pub text : countRow n depth c around .text ≤ mostRows * widestPool
+  pub links : countRow n depth c around .links ≤ mostDepth * (mostRows * widestPool)
 
 -- a pass that may stop once the text has more than `most` bytes
 pub record CountsUpTo (most : ℕ) (nodeOf : ℕ → Node) (depths : List ℕ) (i : ℕ) (r : Counts) : Type 0 where

@@ -7,7 +7,7 @@ use Prim.Native.Nat.{ℕ, _*_, _≤_, _<_}
 use lib.ListN.{length, getD}
 use Rattle.common.specs.Bytes.{Bytes}
 use Rattle.sheet.specs.Accepted.{Accepted}
-use Rattle.sheet.specs.Layout.{depths}
+use Rattle.sheet.specs.Layout.{mostRows, mostDepth, depths}
 use Rattle.sheet.specs.declared.line.Layout.{Layout}
 use Rattle.tree.specs.Node.{element, Node}
 use Rattle.tree.specs.Page.{widestPool, nodeAt}
@@ -16,10 +16,10 @@ use Rattle.tree.specs.TextContent.{descendantText}
 use Rattle.links.specs.Links.{textBytes, linkBytes, measureOf, exceeds, linkCluster, fifthOfAny, fifthOf500, threeFifthsOf800, threeFifthsOf1500}
 use Rattle.links.specs.declared.Rule.{Rule}
 
--- counts that a sheet can have: it has at most 20,000 rows, each shows at most the pool, and each text stands in at most 500 links
+-- counts that a sheet can have: it has at most `mostRows` rows, each shows at most the pool, and each text stands in at most `mostDepth` links
 pub record Possible (total links : ℕ) : Type 0 where
-  pub total-most : total ≤ 20000 * widestPool
-  pub links-most : links ≤ 500 * (20000 * widestPool)
+  pub total-most : total ≤ mostRows * widestPool
+  pub links-most : links ≤ mostDepth * (mostRows * widestPool)
 
 -- whether the measure says yes
 abbrev pub saysYes : Rule → ℕ → ℕ → Bool
@@ -42,7 +42,7 @@ LinksByDepth =
 abbrev pub CountsBounded : Type 0
 CountsBounded =
     (s : Bytes) (l : Layout) → Accepted s l → (i : ℕ) → i < l .nodes
-    → (textBytes (nodeAt s l) (depths s l) i ≤ l .nodes * l .pool) × (linkBytes (nodeAt s l) (depths s l) i ≤ 500 * (l .nodes * l .pool))
+    → (textBytes (nodeAt s l) (depths s l) i ≤ l .nodes * l .pool) × (linkBytes (nodeAt s l) (depths s l) i ≤ mostDepth * (l .nodes * l .pool))
 
 -- the rules of row i of a tree
 pub record ClustersAreExact (nodeOf : ℕ → Node) (depths : List ℕ) (i : ℕ) : Type 0 where

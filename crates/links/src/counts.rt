@@ -1,4 +1,5 @@
 // Text bytes and link bytes of a row, in one pass over what stands below it.
+use sheet::limits::MOST_DEPTH;
 use sheet::line::Layout;
 use sheet::line::Row;
 use sheet::read::depth_at;
@@ -10,7 +11,7 @@ ghost use mathlib.Core.Path.{_≡_};
 ghost use Prim.Native.Nat.{_+_, _*_, _≤_, _<_, min};
 ghost use lib.ListN.{length, replicate};
 ghost use Rattle.sheet.specs.Accepted.{Accepted};
-ghost use Rattle.sheet.specs.Layout.{depths, rowAt};
+ghost use Rattle.sheet.specs.Layout.{depths, mostDepth, mostRows, rowAt};
 ghost use Rattle.text.specs.Text.{collapse, collapseFrom, isSpace};
 ghost use Rattle.tree.specs.Page.{nodeAt, widestPool};
 ghost use Rattle.links.specs.Counting.{CountsUpTo, Room, aroundAfter, countRow, withText};
@@ -57,14 +58,14 @@ fn own_len(t: &[u8], space: bool, len: usize) -> usize
 }
 
 fn more_links(links: usize, old: usize, len: usize, new: usize, own: usize) -> usize
-    requires { ⌜ links + old * len + new * own ≤ 500 * (20000 * widestPool) ⌝ }
+    requires { ⌜ links + old * len + new * own ≤ mostDepth * (mostRows * widestPool) ⌝ }
     ensures { λ r. ⌜ r ≡ links + old * len + new * own ⌝ }
 {
     links + old * len + new * own
 }
 
 fn add_text(t: &[u8], c: Counting, depth: usize, above: usize, old: usize) -> Counting
-    requires { ⌜ (old ≤ above) × (withText c depth above old (now t) .text ≤ 20000 * widestPool) × (withText c depth above old (now t) .links ≤ 500 * (20000 * widestPool)) ⌝ }
+    requires { ⌜ (old ≤ above) × (withText c depth above old (now t) .text ≤ mostRows * widestPool) × (withText c depth above old (now t) .links ≤ mostDepth * (mostRows * widestPool)) ⌝ }
     ensures { λ r. ⌜ r ≡ withText c depth above old (now (t .entry)) ⌝ }
 {
     if t.len() == 0 {
@@ -118,7 +119,7 @@ fn count_row(s: &[u8], l: Layout, j: usize, r: Row, c: Counting, around: &mut [u
 
 // The rows behind row i up to the first one past, or to a text of more than most bytes.
 fn count_rows(s: &[u8], l: Layout, i: usize, most: usize, around: &mut [usize]) -> Counts
-    requires { ⌜ Accepted (now s) l × (i < l .nodes) × (rowAt (now s) l i .kind ≡ 1) × (now around ≡ replicate 502 0) ⌝ }
+    requires { ⌜ Accepted (now s) l × (i < l .nodes) × (rowAt (now s) l i .kind ≡ 1) × (now around ≡ replicate (mostDepth + 2) 0) ⌝ }
     ensures { λ r. ⌜ CountsUpTo most (nodeAt (now (s .entry)) l) (depths (now (s .entry)) l) i r ⌝ }
 {
     let nodes = l.nodes;
@@ -153,10 +154,11 @@ fn count_rows(s: &[u8], l: Layout, i: usize, most: usize, around: &mut [usize]) 
     }
 }
 
+// `around` has a place for each depth from 0 on, and one more.
 pub fn count_up_to(s: &[u8], l: Layout, i: usize, most: usize) -> Counts
     requires { ⌜ Accepted (now s) l × (i < l .nodes) × (rowAt (now s) l i .kind ≡ 1) ⌝ }
     ensures { λ r. ⌜ CountsUpTo most (nodeAt (now (s .entry)) l) (depths (now (s .entry)) l) i r ⌝ }
 {
-    let mut around = [0; 502];
+    let mut around = [0; MOST_DEPTH + 2];
     count_rows(s, l, i, most, &mut around)
 }

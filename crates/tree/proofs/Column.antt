@@ -5,7 +5,7 @@ use native.Mathlib.Omega.{arith}
 use lib.ListN.{length, getD, drop}
 use Rattle.common.specs.Bytes.{Bytes}
 use Rattle.sheet.specs.Accepted.{Accepted}
-use Rattle.sheet.specs.Layout.{rowAt, depths}
+use Rattle.sheet.specs.Layout.{mostDepth, rowAt, depths}
 use Rattle.sheet.specs.declared.line.Layout.{Layout}
 use Rattle.sheet.proofs.LayoutLaws.{depths-from-length, depths-at}
 use Rattle.tree.specs.Rows.{scanOf, firstChildOf, nextSiblingOf}
@@ -22,7 +22,7 @@ module _ (s : Bytes) (l : Layout) where
   pub depth-is : {x : ℕ} (i : ℕ) → i < l .nodes → x ≡ rowAt s l i .depth → x ≡ getD (depths s l) i 0
   depth-is i h e = e ∙ sym (depths-at s l i h)
 
-  pub depth-small : Accepted s l → (i : ℕ) → i < l .nodes → rowAt s l i .depth ≤ 500
+  pub depth-small : Accepted s l → (i : ℕ) → i < l .nodes → rowAt s l i .depth ≤ mostDepth
   depth-small a zero h = omega (arith, a .body-depth)
   depth-small a (suc i) h = a .later i h .most-depth
 

@@ -12,7 +12,7 @@ use borrow.Author.Tests.{eqb-true, eqb-false}
 use Rattle.common.specs.Bytes.{Bytes}
 use Rattle.common.proofs.Choice.{by-test}
 use Rattle.sheet.specs.Accepted.{Accepted}
-use Rattle.sheet.specs.Layout.{rowAt, range, depths}
+use Rattle.sheet.specs.Layout.{mostRows, rowAt, range, depths}
 use Rattle.sheet.specs.declared.line.Layout.{Layout}
 use Rattle.sheet.specs.declared.line.Row.{Row}
 use Rattle.sheet.proofs.LayoutLaws.{depths-from-length}
@@ -120,10 +120,10 @@ module _ {s : Bytes} {l : Layout} (a : Accepted s l) where
   length-in-pool i h = omega (arith, collapse-length isSpace (textContent (nodeAt s l) i (childrenOf (depths s l) i)), content-small i h)
 
   -- all rows, and each with the whole pool
-  pub whole-small : l .nodes * l .pool ≤ 20000 * widestPool
-  whole-small = le-trans (mul-le-mul-right (l .pool) (a .sized .nodes)) (mul-le-mul-left 20000 (pool-small a))
+  pub whole-small : l .nodes * l .pool ≤ mostRows * widestPool
+  whole-small = le-trans (mul-le-mul-right (l .pool) (a .sized .nodes)) (mul-le-mul-left mostRows (pool-small a))
 
-  pub length-small : (i : ℕ) → i < l .nodes → textLength (nodeAt s l) (depths s l) i ≤ 20000 * widestPool
+  pub length-small : (i : ℕ) → i < l .nodes → textLength (nodeAt s l) (depths s l) i ≤ mostRows * widestPool
   length-small i h = le-trans (length-in-pool i h) whole-small
 
 -- ---- the answer to a byte string, by what is asked

@@ -18,7 +18,7 @@ pub record Page : Type 0 where
   pub marked : ℕ → Bool
   pub root : ℕ
 
--- the longest pool that the bounds on a page allow for: a sheet's is at most 4,194,304 bytes today
+-- the longest pool that the bounds on a page allow for: a sheet's is at most `poolLimit w`, which is less today
 abbrev pub widestPool : ℕ
 widestPool = 268435456
 

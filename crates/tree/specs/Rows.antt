@@ -9,7 +9,7 @@ use lib.ListN.{length, getD, drop}
 use Rattle.tree.specs.Forest.{Forest, empty, node}
 
 -- The depth column of an accepted sheet, by refusal 14: "row 0 is not an element named body at depth 0 ..; a later depth is 0, above 500 or more than one above the row before".
--- The bound of 500 is not needed here.
+-- The bound `mostDepth` is not needed here.
 pub record WellFormed (depths : List ℕ) : Type 0 where
   pub row : 0 < length depths
   pub root : getD depths 0 0 ≡ 0

@@ -12,7 +12,7 @@ use text::collapsed_len;
 ghost use mathlib.Core.Path.{_≡_};
 ghost use Prim.Native.Nat.{_*_, _≤_, _<_};
 ghost use Rattle.sheet.specs.Accepted.{Accepted};
-ghost use Rattle.sheet.specs.Layout.{depths, rowAt};
+ghost use Rattle.sheet.specs.Layout.{depths, mostRows, rowAt};
 ghost use Rattle.tree.specs.Page.{nodeAt, widestPool};
 ghost use Rattle.tree.specs.TextContent.{textData};
 ghost use Rattle.tree.specs.TextLength.{lengthNumbers, lengthOf, numbers, squeezedOn, textLength};
@@ -25,7 +25,7 @@ pub enum LengthAnswer {
 
 // A collapsed text with the data of row j more.
 fn add_row(s: &[u8], l: Layout, j: usize, p: Squeezed) -> Squeezed
-    requires { ⌜ Accepted (now s) l × (j < l .nodes) × (p .len ≤ 20000 * widestPool) ⌝ }
+    requires { ⌜ Accepted (now s) l × (j < l .nodes) × (p .len ≤ mostRows * widestPool) ⌝ }
     ensures { λ r. ⌜ r ≡ squeezedOn p (textData (nodeAt (now (s .entry)) l j)) ⌝ }
 {
     let r = row_at(s, l, j);

@@ -8,6 +8,7 @@ use lib.ListN.{length}
 use Rattle.common.specs.Bytes.{Bytes}
 use Rattle.options.specs.declared.ExtractOptions.{ExtractOptions}
 use Rattle.sheet.specs.Accepted.{Accepted}
+use Rattle.sheet.specs.Layout.{mostDepth}
 use Rattle.sheet.specs.declared.line.Layout.{Layout}
 use Rattle.html2text.specs.Bounds.{mostEvents}
 use Rattle.collect.specs.declared.Visit.{Visit}
@@ -40,7 +41,7 @@ pub record Walking (s : Bytes) (l : Layout) (left : List Bool) (room : ℕ) (sta
   pub same : length stack ≡ room
 
 module _ {s : Bytes} {l : Layout} {left : List Bool} where
-  pub walking-start : {o : ExtractOptions} → Accepted s l → Walked s l o left → (stack : List ℕ) → 500 < length stack
+  pub walking-start : {o : ExtractOptions} → Accepted s l → Walked s l o left → (stack : List ℕ) → mostDepth < length stack
       → Walking s l left (length stack) stack (Root (l .root)) 0
   walking-start accepted walked stack h = record { stands = walk-start accepted walked stack h; count = omega arith; same = refl }
 

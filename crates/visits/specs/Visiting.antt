@@ -8,6 +8,7 @@ use Rattle.common.specs.Bytes.{Bytes}
 use Rattle.options.specs.declared.ExtractOptions.{ExtractOptions}
 use Rattle.sheet.specs.Accepted.{Accepted}
 use Rattle.sheet.specs.Layout as layout
+use Rattle.sheet.specs.Layout.{mostDepth}
 use Rattle.sheet.specs.declared.line.Layout.{Layout}
 use Rattle.tree.specs.Node.{comment}
 use Rattle.tree.specs.Page.{nodeAt, pageOf}
@@ -93,7 +94,7 @@ module _ (s : Bytes) (l : Layout) where
 
   -- the stack has room for what is left, and the rows that are left to visit are rows of the sheet
   pub record WalkStands (left : List Bool) (w : Walk) (stack : List ℕ) : Type 0 where
-    pub deep : 500 < length stack
+    pub deep : mostDepth < length stack
     pub fits : Fits (layout.depths s l) (length stack) w
     pub shown : EachShown (passesLeft left w stack)
 

@@ -12,7 +12,7 @@ use borrow.Author.Count.{below-more}
 use Rattle.common.specs.Bytes.{Bytes, codes, same}
 use Rattle.common.proofs.Parts.{part-to}
 use Rattle.sheet.specs.Accepted.{Accepted}
-use Rattle.sheet.specs.Layout.{headerLength, nodeLength, poolStart, rowAt, range, depths}
+use Rattle.sheet.specs.Layout.{headerLength, nodeLength, poolStart, mostDepth, rowAt, range, depths}
 use Rattle.sheet.specs.Notes.{Sized, rowIn, restRight}
 use Rattle.sheet.specs.Verdict.{countsFrom, judged, isSheet}
 use Rattle.sheet.specs.declared.line.Layout.{Layout}
@@ -197,8 +197,8 @@ module _ {s : Bytes} {l : Layout} {ds₀ ts₀ fs₀ vs₀ ls₀ ds ts fs vs ls 
   pub taking-end : l .nodes ≤ i → restRight s l first ≡ isSheet (judged s l)
   taking-end h = let e : i ≡ l .nodes = omega (arith, g .rows .within) in rows-end s l (g .rows) h (g .reading .first-is ∙ ap (countsFrom s l 0) e)
 
--- the column of an accepted sheet, for a stack of 501 rows or more
-pub column-right : {s : Bytes} {l : Layout} {room : ℕ} → Accepted s l → 500 < room → ColumnRight (depths s l) room
+-- the column of an accepted sheet, for a stack with a place for each depth
+pub column-right : {s : Bytes} {l : Layout} {room : ℕ} → Accepted s l → mostDepth < room → ColumnRight (depths s l) room
 column-right {s} {l} a h =
     record {
       column = well-formed a;

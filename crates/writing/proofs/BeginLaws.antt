@@ -16,7 +16,7 @@ use Rattle.tags.specs.Tags.{isTr}
 use Rattle.tree.specs.Page.{nodeAt}
 use Rattle.html2text.specs.Bounds.{StateBounded}
 use Rattle.html2text.specs.Collect.{Event, tagNumber, pushedNode, marked}
-use Rattle.html2text.specs.Extract.{going, depthPasses, rowsPass}
+use Rattle.html2text.specs.Extract.{going, mostLevels, mostOpenRows, depthPasses, rowsPass}
 use Rattle.html2text.specs.Fused.{Fused, closed, pushesOn}
 use Rattle.html2text.specs.Serialize.{State, step, changesLevel}
 use Rattle.html2text.specs.Showing.{showingOf, begun}
@@ -35,11 +35,11 @@ use Rattle.writing.specs.declared.OpenEntry.{OpenEntry}
 
 -- ---- the limits
 
-row-left : (tr end : Bool) (k : ℕ) → (tr && (not end && leb 1024 k)) ≡ false → tr ≡ true → end ≡ false → k < 1024
-row-left tr end k e t f = leb-false 1024 k (rw (t, f) at e)
+row-left : (tr end : Bool) (k : ℕ) → (tr && (not end && leb mostOpenRows k)) ≡ false → tr ≡ true → end ≡ false → k < mostOpenRows
+row-left tr end k e t f = leb-false mostOpenRows k (rw (t, f) at e)
 
-level-left : (off end changes : Bool) (k : ℕ) → (not off && (not end && (changes && leb 1024 k))) ≡ false → off ≡ false → changes ≡ true → end ≡ false → k < 1024
-level-left off end changes k e a b c = leb-false 1024 k (rw (a, b, c) at e)
+level-left : (off end changes : Bool) (k : ℕ) → (not off && (not end && (changes && leb mostLevels k))) ≡ false → off ≡ false → changes ≡ true → end ≡ false → k < mostLevels
+level-left off end changes k e a b c = leb-false mostLevels k (rw (a, b, c) at e)
 
 -- the test of list levels, where the ones before it hold
 module _ {off end changes : Bool} (is-on : off ≡ false) (begins : end ≡ false) where
@@ -51,7 +51,7 @@ module _ {off end changes : Bool} (is-on : off ≡ false) (begins : end ≡ fals
 
 -- the test of rows
 module _ (v : Visit) (rows : ℕ) where
-  pub row-tested : v .tag ≡ 1 → v .end ≡ false → leb 1024 rows ≡ rowsPassAt v rows
+  pub row-tested : v .tag ≡ 1 → v .end ≡ false → leb mostOpenRows rows ≡ rowsPassAt v rows
   row-tested e b = rw (e, b)
 
   pub row-ended : v .tag ≡ 1 → v .end ≡ true → false ≡ rowsPassAt v rows

@@ -14,12 +14,13 @@ use Rattle.common.proofs.TestLaws.{or-left, or-right, or-cases, or-neither}
 use Rattle.options.specs.Options.{isOff}
 use Rattle.options.specs.declared.ExtractOptions.{ExtractOptions}
 use Rattle.sheet.specs.Accepted.{Accepted}
+use Rattle.sheet.specs.Layout.{mostDepth}
 use Rattle.sheet.specs.declared.line.Layout.{Layout}
 use Rattle.tags.specs.Tags.{isTr, isUl, isOl, isList, isLi, isBlockTag}
 use Rattle.writer.specs.Writing.{Room}
 use Rattle.html2text.specs.Bounds.{Along}
 use Rattle.html2text.specs.Collect.{Event, added}
-use Rattle.html2text.specs.Extract.{Run, going, tooManyLevels, tooManyRows}
+use Rattle.html2text.specs.Extract.{Run, going, tooManyLevels, tooManyRows, mostLevels, mostOpenRows}
 use Rattle.html2text.specs.Fused.{Fused, idle, closed, pushesOn, fed}
 use Rattle.html2text.specs.Serialize.{State, start, changesLevel}
 use Rattle.html2text.specs.Showing.{begun}
@@ -52,13 +53,13 @@ level-block : (t k : ℕ) → changesLevel t k ≡ true → isBlockTag t ≡ tru
 level-block t k e =
     or-cases (isList t) (isLi t && eqb k 0) (list-block t) (λ p. ap isBlockTag (eqb-true t 5 (and-parts (isLi t) (eqb k 0) p .0))) e
 
-levels-block : (off end : Bool) (t k : ℕ) → (not off && (not end && (changesLevel t k && leb 1024 k))) ≡ true → isBlockTag t ≡ true
+levels-block : (off end : Bool) (t k : ℕ) → (not off && (not end && (changesLevel t k && leb mostLevels k))) ≡ true → isBlockTag t ≡ true
 levels-block off end t k e =
     let a = and-parts (not off) _ e .1 in
     let b = and-parts (not end) _ a .1 in
-    level-block t k (and-parts (changesLevel t k) (leb 1024 k) b .0)
+    level-block t k (and-parts (changesLevel t k) (leb mostLevels k) b .0)
 
-rows-block : (end : Bool) (t k : ℕ) → (isTr t && (not end && leb 1024 k)) ≡ true → isBlockTag t ≡ true
+rows-block : (end : Bool) (t k : ℕ) → (isTr t && (not end && leb mostOpenRows k)) ≡ true → isBlockTag t ≡ true
 rows-block end t k e = or-left (isTr t) _ (and-parts (isTr t) _ e .0)
 
 block-opens : (o : ExtractOptions) (any : Bool) (last : ℕ) (v : Visit) → isBlockTag (v .tag) ≡ true → opensOn o any last v ≡ true
@@ -104,8 +105,8 @@ pub record Passing (o : ExtractOptions) (s : Bytes) (l : Layout) (left : List Bo
   pub levelled : Levelled a
 
 module _ {o : ExtractOptions} {s : Bytes} {l : Layout} {left : List Bool} where
-  pub passing-start : {write : Bool} {p : OpenEntry} (stack numbering : List ℕ) (cells : List Bool) (out : Bytes) → Accepted s l → Walked s l o left → 500 < length stack
-      → length numbering ≡ 1024 → length cells ≡ 1024 → p ≡ noPass
+  pub passing-start : {write : Bool} {p : OpenEntry} (stack numbering : List ℕ) (cells : List Bool) (out : Bytes) → Accepted s l → Walked s l o left → mostDepth < length stack
+      → length numbering ≡ mostLevels → length cells ≡ mostOpenRows → p ≡ noPass
       → Passing o s l left write out (length stack) stack (lent numbering cells out) (Root (l .root)) 0 p
   unfolding closed
   passing-start stack numbering cells out accepted walked deep n c is =

@@ -15,7 +15,7 @@ use Rattle.writer.specs.Writing.{Held, Room}
 use Rattle.writer.specs.declared.Writer.{Writer}
 use Rattle.html2text.specs.Bounds.{mostEvents, StateBounded}
 use Rattle.html2text.specs.Collect.{Event, marked}
-use Rattle.html2text.specs.Extract.{Run, going, tooManyLevels, tooManyRows}
+use Rattle.html2text.specs.Extract.{Run, going, tooManyLevels, tooManyRows, mostLevels, mostOpenRows}
 use Rattle.html2text.specs.Fused.{Fused, closed, pushesOn, fed}
 use Rattle.html2text.specs.Serialize.{State, changesLevel, step}
 use Rattle.html2text.specs.Showing.{droppedShowing, showingOf, showingAfter, begun}
@@ -35,10 +35,10 @@ noPass = record { progress = record { serializer = noSerializer; len = 0; need =
 
 -- `depthPasses` and `rowsPass` of the entry that a visit would open
 abbrev pub depthPassesAt : Formatting → Visit → ℕ → Bool
-depthPassesAt f v depth = not (isOff f) && (not (v .end) && (changesLevel (v .tag) depth && leb 1024 depth))
+depthPassesAt f v depth = not (isOff f) && (not (v .end) && (changesLevel (v .tag) depth && leb mostLevels depth))
 
 abbrev pub rowsPassAt : Visit → ℕ → Bool
-rowsPassAt v rows = isTr (v .tag) && (not (v .end) && leb 1024 rows)
+rowsPassAt v rows = isTr (v .tag) && (not (v .end) && leb mostOpenRows rows)
 
 -- how more of the open entry's text is shown
 pub record ShowingIs (o : ExtractOptions) (F : Fused) (w : Showing) : Type 0 where
@@ -62,8 +62,8 @@ pub record Passes (o : ExtractOptions) (write : Bool) (under : Bytes) (p : OpenE
 
 -- the arrays of list numbers and of rows have a place for each level and row
 pub record Levelled (a : Lent) : Type 0 where
-  pub numbering : length (a .numbering) ≡ 1024
-  pub cells : length (a .cells) ≡ 1024
+  pub numbering : length (a .numbering) ≡ mostLevels
+  pub cells : length (a .cells) ≡ mostOpenRows
 
 -- they stand for a run of few entries
 pub record Standing (o : ExtractOptions) (write : Bool) (p : OpenEntry) (a : Lent) : Type 0 where

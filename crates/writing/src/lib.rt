@@ -3,6 +3,8 @@ use collect::Visit;
 use collect::added::add;
 use collect::entry::node_of;
 use collect::entry::opens;
+use html2text::MOST_LEVELS;
+use html2text::MOST_OPEN_ROWS;
 use html2text::Showing;
 use options::ExtractOptions;
 use options::Formatting;
@@ -20,15 +22,14 @@ ghost use mathlib.Core.Path.{_≡_};
 ghost use Prim.Native.Nat.{_<_};
 ghost use lib.ListN.{length};
 ghost use Rattle.collect.specs.Visits.{Visits, eventOf};
+ghost use Rattle.html2text.specs.Extract.{mostLevels, mostOpenRows};
 ghost use Rattle.html2text.specs.Fused.{fed};
 ghost use Rattle.serializer.specs.Serializing.{lent};
+ghost use Rattle.sheet.specs.Layout.{mostDepth};
 ghost use Rattle.visits.specs.Visiting.{Noted, Walked};
 ghost use Rattle.writing.specs.Passing.{OpenReady, Opens, PassDoes, PassReady, PassesAll, WriteReady, depthPassesAt, noPass, rowsPassAt};
 
 const TR: u8 = 1;
-
-// The most list levels, and the most open rows.
-const MOST: usize = 1024;
 
 // Along a pass: the open entry's progress, and of its node what later visits look at. any: whether one is open.
 pub struct OpenEntry {
@@ -87,7 +88,7 @@ fn passes_levels(f: Formatting, v: Visit, depth: usize) -> bool
     if v.end {
         return false;
     }
-    changes_level(v.tag, depth) && MOST <= depth
+    changes_level(v.tag, depth) && MOST_LEVELS <= depth
 }
 
 // "22: open table rows would pass 1,024."
@@ -98,7 +99,7 @@ fn passes_rows(v: Visit, rows: usize) -> bool
         if v.end {
             return false;
         }
-        return MOST <= rows;
+        return MOST_OPEN_ROWS <= rows;
     }
     false
 }
@@ -193,7 +194,7 @@ pub fn pass(
     write: bool,
 ) -> Passed
     requires { ⌜ Noted (now s) l (now depths) (now tags) (now attributes) (now values) (now lengths) ⌝ }
-    requires { ⌜ Walked (now s) l o (now left) × (500 < length (now stack)) × (length (now numbering) ≡ 1024) × (length (now cells) ≡ 1024) ⌝ }
+    requires { ⌜ Walked (now s) l o (now left) × (mostDepth < length (now stack)) × (length (now numbering) ≡ mostLevels) × (length (now cells) ≡ mostOpenRows) ⌝ }
     requires { ⌜ WriteReady o (now s) l (now left) write (now out) ⌝ }
     ensures { λ r. ⌜ PassesAll o (now (s .entry)) l (now (left .entry)) write (now (out .entry)) r (now (out .exit)) ⌝ }
 {

@@ -1,10 +1,10 @@
 -- `count_rows` meets its contract.
-use Prim.Native.Nat.{_-_, _≤_}
+use Prim.Native.Nat.{_+_, _-_, _≤_}
 use mathlib.Core.Path.{_≡_, refl, sym, _∙_}
 use native.Mathlib.Omega.{arith}
 use denote.Ref.{now}
 use lib.ListN.{length, getD}
-use Rattle.sheet.specs.Layout.{depths}
+use Rattle.sheet.specs.Layout.{mostDepth, depths}
 use Rattle.tree.specs.Page.{nodeAt}
 use Rattle.tree.proofs.Column.{below-length, depth-is}
 use Rattle.tree.proofs.PageLaws.{is-element}
@@ -15,7 +15,7 @@ use Rattle.links.proofs.counts.count_rows.Statement.{statement}
 use Rattle.links.proofs.counts.count_rows.Tie as tie
 
 abbrev Inv-loop : tie.InvT-loop
-Inv-loop s l i most around₀ nodes d c₀ j₀ around c j = (j ≤ nodes) × (d ≡ getD (depths s l) i 0) × (length around ≡ 502) × Counted (nodeAt s l) (depths s l) i j c around
+Inv-loop s l i most around₀ nodes d c₀ j₀ around c j = (j ≤ nodes) × (d ≡ getD (depths s l) i 0) × (length around ≡ mostDepth + 2) × Counted (nodeAt s l) (depths s l) i j c around
 
 abbrev μ-loop : tie.MeasureT-loop
 μ-loop s l i most around₀ nodes d c₀ j₀ around c j = nodes - j
@@ -33,7 +33,7 @@ loop-holds c =
       omega arith,
       depth-is _ _ _ (p .1) (c .depth-at .ensures),
       zeros-size (p .3),
-      counted-start (nodeAt (now (a .s)) (a .l)) (depths (now (a .s)) (a .l)) (well-formed (p .0)) (a .i) (below-length _ _ _ (p .1)) (is-element _ _ _ refl (p .2)) (rw (p .3) (zeros 502)),
+      counted-start (nodeAt (now (a .s)) (a .l)) (depths (now (a .s)) (a .l)) (well-formed (p .0)) (a .i) (below-length _ _ _ (p .1)) (is-element _ _ _ refl (p .2)) (rw (p .3) (zeros (mostDepth + 2))),
     )
 
 row-at-requires : tie.Need-row-at-requires Inv-loop μ-loop
