@@ -13,12 +13,13 @@ use options::Formatting;
 ghost use mathlib.Core.Bool.{_&&_, not};
 ghost use mathlib.Core.Path.{_≡_};
 ghost use Prim.Native.Nat.{_<_};
+ghost use Rattle.common.specs.Bytes.{lengthLimit};
 ghost use Rattle.html2text.specs.Collect.{isLink, marked, preDepth};
 ghost use Rattle.options.specs.Options.{isMinimalHtml};
 ghost use Rattle.collect.specs.Entries.{nodeOf, opensOn};
 
 fn pre_depth(tag: u8, end: bool, before: usize) -> usize
-    requires { ⌜ before < 4611686018427387904 ⌝ }
+    requires { ⌜ before < lengthLimit ⌝ }
     ensures { λ r. ⌜ r ≡ preDepth tag end before ⌝ }
 {
     if is_pre(tag) {
@@ -35,7 +36,7 @@ fn pre_depth(tag: u8, end: bool, before: usize) -> usize
 
 // `ExtractNode { .. }`; before is the pre_depth of the entry before.
 fn pushed_node(o: ExtractOptions, before: usize, v: Visit) -> ExtractNode
-    requires { ⌜ before < 4611686018427387904 ⌝ }
+    requires { ⌜ before < lengthLimit ⌝ }
     ensures { λ r. ⌜ r ≡ nodeOf o before v ⌝ }
 {
     let f = o.formatting;
@@ -91,7 +92,7 @@ fn marked_node(o: ExtractOptions, tag: u8, n: ExtractNode) -> ExtractNode
 
 // The entry that a visit pushes; before is the pre_depth of the entry before.
 pub fn node_of(o: ExtractOptions, before: usize, v: Visit) -> ExtractNode
-    requires { ⌜ before < 4611686018427387904 ⌝ }
+    requires { ⌜ before < lengthLimit ⌝ }
     ensures { λ r. ⌜ r ≡ marked o (v .tag) (nodeOf o before v) ⌝ }
 {
     let pushed = pushed_node(o, before, v);

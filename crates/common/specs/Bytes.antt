@@ -11,6 +11,10 @@ use lib.ListN.{length, replicate}
 abbrev pub Bytes : Type 0
 Bytes = List ℕ
 
+-- 2^62: lengths and counts are kept below it, so that a word holds the sum of four
+abbrev pub lengthLimit : ℕ
+lengthLimit = 4611686018427387904
+
 -- the bytes of a text that is written in ASCII
 unfoldable pub codes : String → Bytes
 codes S.[] = []

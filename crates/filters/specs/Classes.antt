@@ -4,7 +4,7 @@ use mathlib.Core.Bool.{Bool, false, _||_}
 use mathlib.Core.List.{List, [], _∷_}
 use Prim.Native.Nat.{ℕ, _+_, _<_}
 use lib.ListN.{getD, length}
-use Rattle.common.specs.Bytes.{Bytes}
+use Rattle.common.specs.Bytes.{Bytes, lengthLimit}
 use Rattle.patterns.specs.Candidates.{MaskTable}
 use Rattle.patterns.specs.Match.{matchesOf}
 use Rattle.patterns.specs.Steps.{stepCodes}
@@ -26,4 +26,4 @@ pub record Tables (steps masks : List ℕ) : Type 0 where
 
 -- texts that can be joined
 abbrev pub Joinable : Bytes → Bytes → Type 0
-Joinable class id = length class + length id < 4611686018427387904
+Joinable class id = length class + length id < lengthLimit

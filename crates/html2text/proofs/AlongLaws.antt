@@ -4,6 +4,7 @@ use mathlib.Core.List.{List, [], _∷_}
 use Prim.Native.Nat.{_+_, _≤_, _<_}
 use native.Mathlib.Omega.{arith}
 use lib.ListN.{length}
+use Rattle.common.specs.Bytes.{lengthLimit}
 use Rattle.options.specs.declared.ExtractOptions.{ExtractOptions}
 use Rattle.html2text.specs.Bounds.{mostEvents, StateBounded, EachAdds, Along}
 use Rattle.html2text.specs.Collect.{Event}
@@ -28,7 +29,7 @@ module _ {o : ExtractOptions} {whole F : Fused} where
     pub along-closed : {S : State} → closed o F ≡ going S → StateBounded (a .count + 1) S
     along-closed e = going-at (StateBounded (a .count + 1)) (bounded-closed o (a .bounded) (omega (arith, a .few))) e
 
-    pub along-written : {S : State} → closed o F ≡ going S → S .out .peak < 4611686018427387904
+    pub along-written : {S : State} → closed o F ≡ going S → S .out .peak < lengthLimit
     along-written e = written-small (omega (arith, a .few)) (along-closed e)
 
   -- ---- before an event

@@ -8,7 +8,7 @@ use native.Mathlib.Omega.{arith}
 use lib.Dec.{leb}
 use lib.ListN.{length, length-append}
 use borrow.Author.Tests.{leb-false}
-use Rattle.common.specs.Bytes.{Bytes}
+use Rattle.common.specs.Bytes.{Bytes, lengthLimit}
 use Rattle.common.proofs.Choice.{by-cond}
 use Rattle.options.specs.Options.{isOff}
 use Rattle.options.specs.declared.ExtractOptions.{ExtractOptions}
@@ -105,10 +105,10 @@ state-more h l m =
     }
 
 -- what is written fits a word
-pub written-small : {k : ℕ} {S : State} → k ≤ mostEvents + 1 → StateBounded k S → S .out .peak < 4611686018427387904
+pub written-small : {k : ℕ} {S : State} → k ≤ mostEvents + 1 → StateBounded k S → S .out .peak < lengthLimit
 written-small l h = omega (arith, h .peak)
 
-pub need-small : {k : ℕ} {F : Fused} → k ≤ mostEvents → Bounded k F → F .note .peak < 4611686018427387904
+pub need-small : {k : ℕ} {F : Fused} → k ≤ mostEvents → Bounded k F → F .note .peak < lengthLimit
 need-small l h = omega (arith, h .need)
 
 -- ---- a run, whose events add at most `adds` bytes to a text each, and `writes` to what is written

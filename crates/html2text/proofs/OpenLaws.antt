@@ -4,7 +4,7 @@ use mathlib.Core.Bool.{Bool, true, false, cond}
 use mathlib.Core.List.{List, [], _∷_, _++_}
 use Prim.Native.Nat.{ℕ, suc, _+_, _<_}
 use native.Mathlib.Omega.{arith}
-use Rattle.common.specs.Bytes.{Bytes}
+use Rattle.common.specs.Bytes.{Bytes, lengthLimit}
 use Rattle.common.proofs.Choice.{by-test}
 use Rattle.options.specs.declared.ExtractOptions.{ExtractOptions}
 use Rattle.options.specs.declared.Formatting.{Formatting}
@@ -158,10 +158,10 @@ module _ {o : ExtractOptions} {whole F : Fused} {e : Event} {rest : List Event} 
   pub fed-onward : Onward (closed o (fed o e F)) (closed o whole)
   fed-onward = along-onward (along-next a)
 
-  pub fed-written : {T : State} → closed o (fed o e F) ≡ going T → T .out .peak < 4611686018427387904
+  pub fed-written : {T : State} → closed o (fed o e F) ≡ going T → T .out .peak < lengthLimit
   fed-written c = along-written (along-next a) c
 
-  pub fed-need-small : fed o e F .note .peak < 4611686018427387904
+  pub fed-need-small : fed o e F .note .peak < lengthLimit
   fed-need-small = need-small (omega (arith, a .few)) next-bounded
 
   -- ---- at the entry that the event begins, before its text
@@ -179,5 +179,5 @@ module _ {o : ExtractOptions} {whole F : Fused} {e : Event} {rest : List Event} 
     pub begun-bounded : {T : State} → closed o (begun o e F) ≡ going T → StateBounded (a .count + 2) T
     begun-bounded c = bounded-two bounded-begun c
 
-    pub begun-written : {T : State} → closed o (begun o e F) ≡ going T → T .out .peak < 4611686018427387904
+    pub begun-written : {T : State} → closed o (begun o e F) ≡ going T → T .out .peak < lengthLimit
     begun-written c = written-small (omega (arith, a .few)) (begun-bounded c)

@@ -3,6 +3,7 @@ ghost use mathlib.Core.Bool.{true};
 ghost use mathlib.Core.Path.{_≡_};
 ghost use Prim.Native.Nat.{_+_, _*_, _≤_, _<_};
 ghost use lib.ListN.{drop, length};
+ghost use Rattle.common.specs.Bytes.{lengthLimit};
 ghost use Rattle.regex.specs.Joined.{joined};
 ghost use Rattle.regex.specs.Steps.{startOf};
 ghost use Rattle.regex.specs.Meaning.{holds, still};
@@ -129,7 +130,7 @@ fn has(set: u32, pattern: usize) -> bool
 
 // A set of patterns with each that class and id as one text match.
 pub fn candidates(masks: &[u32; 4352], class: &[u8], id: &[u8]) -> u32
-    requires { ⌜ (length (now class) + length (now id) < 4611686018427387904) × MaskTable (now masks) ⌝ }
+    requires { ⌜ (length (now class) + length (now id) < lengthLimit) × MaskTable (now masks) ⌝ }
     ensures { λ r. ⌜ Candidates r (joined (now (class .entry)) (now (id .entry))) ⌝ }
 {
     let n = regex::size(class, id);
@@ -193,7 +194,7 @@ pub fn matches_joined(
     class: &[u8],
     id: &[u8],
 ) -> bool
-    requires { ⌜ (pattern < 21) × (length (now class) + length (now id) < 4611686018427387904) × (now steps ≡ stepCodes) × MaskTable (now masks) ⌝ }
+    requires { ⌜ (pattern < 21) × (length (now class) + length (now id) < lengthLimit) × (now steps ≡ stepCodes) × MaskTable (now masks) ⌝ }
     ensures { λ r. ⌜ r ≡ matchesOf pattern (joined (now (class .entry)) (now (id .entry))) ⌝ }
 {
     search(steps, masks, pattern, class, id, regex::size(class, id))
@@ -208,7 +209,7 @@ pub fn matches_among(
     class: &[u8],
     id: &[u8],
 ) -> bool
-    requires { ⌜ (pattern < 21) × (length (now class) + length (now id) < 4611686018427387904) × (now steps ≡ stepCodes) × MaskTable (now masks) × Candidates set (joined (now class) (now id)) ⌝ }
+    requires { ⌜ (pattern < 21) × (length (now class) + length (now id) < lengthLimit) × (now steps ≡ stepCodes) × MaskTable (now masks) × Candidates set (joined (now class) (now id)) ⌝ }
     ensures { λ r. ⌜ r ≡ matchesOf pattern (joined (now (class .entry)) (now (id .entry))) ⌝ }
 {
     if has(set, pattern) {

@@ -2,6 +2,7 @@
 ghost use mathlib.Core.Path.{_≡_};
 ghost use Prim.Native.Nat.{_+_, _≤_, _<_};
 ghost use lib.ListN.{getD, length};
+ghost use Rattle.common.specs.Bytes.{lengthLimit};
 ghost use Rattle.regex.specs.Regex.{between, inClass, isDash, isHexDigit, lower};
 ghost use Rattle.regex.specs.Joined.{joined};
 ghost use Rattle.regex.specs.Meaning.{blockedOf, classOf, holds, moveOf, stepOf, stepsOf, StepTable};
@@ -101,7 +102,7 @@ fn in_class(class: u16, x: u8) -> bool
 
 // How long class and id are as one text.
 pub fn size(class: &[u8], id: &[u8]) -> usize
-    requires { ⌜ length (now class) + length (now id) < 4611686018427387904 ⌝ }
+    requires { ⌜ length (now class) + length (now id) < lengthLimit ⌝ }
     ensures { λ r. ⌜ r ≡ length (joined (now (class .entry)) (now (id .entry))) ⌝ }
 {
     if class.len() == 0 {

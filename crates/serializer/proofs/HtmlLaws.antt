@@ -7,7 +7,7 @@ use native.Mathlib.Omega.{arith}
 use lib.Dec.{eqb, leb}
 use lib.ListN.{replicate, length-replicate}
 use borrow.Author.Tests.{eq-eqb, ne-eqb, leb-true}
-use Rattle.common.specs.Bytes.{Bytes, codes, same}
+use Rattle.common.specs.Bytes.{Bytes, codes, same, lengthLimit}
 use Rattle.common.proofs.Choice.{by-cond, by-test, absurd-test, and-parts}
 use Rattle.common.proofs.Equality.{same-true}
 use Rattle.common.proofs.Every.{every-at}
@@ -49,7 +49,7 @@ zero-alone s = record { at = λ write a. record { run = λ under S h. stands-mar
 pub rises-zero : Rises (withMargins 0)
 rises-zero = record { rise = λ S. omega arith }
 
-pub copies-small : {write : Bool} {w : Writer} {buf : Bytes} (k : ℕ) → Ready write w buf (pushAll (replicate k 0x20)) → k < 4611686018427387904
+pub copies-small : {write : Bool} {w : Writer} {buf : Bytes} (k : ℕ) → Ready write w buf (pushAll (replicate k 0x20)) → k < lengthLimit
 copies-small k r = omega (arith, run-small (replicate k 0x20) r, length-replicate {A = ℕ} k 0x20)
 
 pub one-most : (b : Bool) {k : ℕ} → k ≡ one b → k ≤ 1

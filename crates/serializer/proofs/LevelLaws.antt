@@ -8,7 +8,7 @@ use lib.Dec.{eqb}
 use lib.ListN.{length, getD, set, length-set, List·getD-eq-default}
 use lib.Seq.{getD-set-same, getD-set-other}
 use borrow.Author.Tests.{eq-eqb, ne-eqb, eqb-true, eqb-false}
-use Rattle.common.specs.Bytes.{Bytes}
+use Rattle.common.specs.Bytes.{Bytes, lengthLimit}
 use Rattle.common.proofs.Choice.{by-cond, by-test}
 use Rattle.tags.specs.Tags.{isLi, isOl}
 use Rattle.html2text.specs.Serialize.{State, withUncollapsed, one, numberText, countUncollapsed, changesLevel, level, numberOf, item}
@@ -74,11 +74,11 @@ levels-works {s = s} n d = record { at = λ write cells out. works-then (count-w
 pub numbers-close : {s : Serializer} {nums : List ℕ} → Numbers s nums → Numbers (setBullet false (setPrefix 0 (setDepth (s .depth - 1) s))) nums
 numbers-close h = record { within = omega (arith, h .within); small = λ i l. h .small i (omega arith) }
 
-one-small : (b : Bool) → one b < 4611686018427387904
+one-small : (b : Bool) → one b < lengthLimit
 one-small true = omega arith
 one-small false = omega arith
 
-set-small : (nums : List ℕ) (k v : ℕ) → v < 4611686018427387904 → ((i : ℕ) → i < k → getD nums i 0 < 4611686018427387904) → k < length nums → (i : ℕ) → i < k + 1 → getD (set nums k v) i 0 < 4611686018427387904
+set-small : (nums : List ℕ) (k v : ℕ) → v < lengthLimit → ((i : ℕ) → i < k → getD nums i 0 < lengthLimit) → k < length nums → (i : ℕ) → i < k + 1 → getD (set nums k v) i 0 < lengthLimit
 set-small nums k v small h l i below =
     by-test (eqb i k)
     (λ e. rw (eqb-true i k e, getD-set-same nums k v 0 l) small)
@@ -94,7 +94,7 @@ numbers-count {s = s} {nums = nums} n h = by-cond (λ (x : Serializer). Numbers 
 pub last-open : (nums : List ℕ) (d : ℕ) {k : ℕ} → k ≡ lastNumber nums d → (k ≡ 0 → ⊥) → 0 < d
 last-open nums d q n = by-test (eqb d 0) (λ e. absurd (n (q ∙ rw e))) (λ e. let z = eqb-false d 0 e in omega arith)
 
-pub last-small : {s : Serializer} {nums : List ℕ} {k : ℕ} → k ≡ lastNumber nums (s .depth) → Numbers s nums → k < 4611686018427387904
+pub last-small : {s : Serializer} {nums : List ℕ} {k : ℕ} → k ≡ lastNumber nums (s .depth) → Numbers s nums → k < lengthLimit
 last-small {s = s} q h =
     by-test (eqb (s .depth) 0) (λ e. omega (arith, rw e at q))
     (λ e. let z = eqb-false (s .depth) 0 e in omega (arith, rw e at q, h .small (s .depth - 1) (omega arith)))

@@ -6,7 +6,7 @@ use Prim.Native.Nat.{ℕ, _+_, _-_, _≤_, _<_}
 use native.Mathlib.Omega.{arith}
 use lib.ListN.{length, getD, length-append}
 use Rattle.common.specs.Answer.{capped}
-use Rattle.common.specs.Bytes.{Bytes, codes, isEmpty}
+use Rattle.common.specs.Bytes.{Bytes, codes, isEmpty, lengthLimit}
 use Rattle.options.specs.Options.{isOff, isBasic}
 use Rattle.options.specs.declared.Formatting.{Formatting}
 use Rattle.text.specs.Text.{isSpace, spaceAfter, escape, escaped}
@@ -130,7 +130,7 @@ any-escape w s = ap not (sym (left-escape (w .squeeze) (w .space) s))
 pub showing-escaped : (w : Showing) (piece : Bytes) → showingThen w (showsAny w piece) (spaceAfter isSpace (w .space) piece) ≡ showingAfter w (escape piece)
 showing-escaped w piece = rw (any-escape w piece, ← space-escape (w .space) piece) (showing-then w (escape piece))
 
-pub uncapped : {len : ℕ} (before : ℕ) (s : Bytes) → len ≡ capped (length s) → before + length s < 4611686018427387904 → len ≡ length s
+pub uncapped : {len : ℕ} (before : ℕ) (s : Bytes) → len ≡ capped (length s) → before + length s < lengthLimit → len ≡ length s
 uncapped before s e h = omega (arith, e, h)
 
 -- ---- one piece after another

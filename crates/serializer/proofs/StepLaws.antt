@@ -7,7 +7,7 @@ use native.Mathlib.Omega.{arith}
 use lib.Dec.{eqb, ltb}
 use lib.ListN.{length, getD}
 use borrow.Author.Tests.{not-true}
-use Rattle.common.specs.Bytes.{Bytes}
+use Rattle.common.specs.Bytes.{Bytes, lengthLimit}
 use Rattle.common.proofs.Choice.{by-cond, and-parts}
 use Rattle.options.specs.Options.{isOff}
 use Rattle.options.specs.declared.Formatting.{Formatting}
@@ -198,10 +198,10 @@ module _ {write : Bool} {s a : Serializer} {nums : List ℕ} {cells cells₁ : L
       same-depth = stands .depth ∙ kept-before (isOff f) n (r .state) .depth ∙ sym (r .stands .depth)
 
       module _ (l : Limits f s nums cells n) where
-        margins-small : b .margins < 4611686018427387904
+        margins-small : b .margins < lengthLimit
         margins-small = omega (arith, l .margins, stands .margins, kept-before (isOff f) n (r .state) .margins, r .stands .margins)
 
-        uncollapsed-small : b .uncollapsed < 4611686018427387904
+        uncollapsed-small : b .uncollapsed < lengthLimit
         uncollapsed-small = omega (arith, l .uncollapsed, stands .uncollapsed, kept-before (isOff f) n (r .state) .uncollapsed, r .stands .uncollapsed)
 
         list-limits : isOff f ≡ false → ListLimits b nums n
@@ -210,7 +210,7 @@ module _ {write : Bool} {s a : Serializer} {nums : List ℕ} {cells cells₁ : L
         numbers : Numbers b nums
         numbers = record { within = omega (arith, same-depth, depth-long r); small = λ i h. l .numbers i (omega (arith, same-depth)) }
 
-        pub after-limits : (b .margins < 4611686018427387904) × (isOff f ≡ false → ListLimits b nums n) × Numbers b nums
+        pub after-limits : (b .margins < lengthLimit) × (isOff f ≡ false → ListLimits b nums n) × Numbers b nums
         after-limits = (margins-small, list-limits, numbers)
 
       block-is : (under : Bytes) (S : State) → Stands write under s (lent nums cells out) S → blockBefore f bullets n (b .uncollapsed) ≡ blockShown f bullets n (cell (isOff f) n (rows n S))

@@ -9,7 +9,7 @@ use lib.Dec.{eqb, ltb}
 use lib.ListN.{length, getD, drop, replicate, length-replicate, drop-of-length-le}
 use lib.Seq.{drop-cons}
 use borrow.Author.Tests.{lt-ltb, ne-eqb}
-use Rattle.common.specs.Bytes.{Bytes, isEmpty}
+use Rattle.common.specs.Bytes.{Bytes, isEmpty, lengthLimit}
 use Rattle.common.proofs.Choice.{by-test}
 use Rattle.text.specs.Text.{isSpace, squeezed, collapseBy, collapseFrom}
 use Rattle.text.proofs.CollapseLaws.{trim-start-collapse}
@@ -108,7 +108,7 @@ module _ {write : Bool} {s : Serializer} (basic bullets : Bool) where
     pub indent-ready : AbleOut write s buf (indentText basic bullets) → Ready write (s .writer) buf (pushAll (replicate (width bullets s) 0x20))
     indent-ready r = text-ready (indentation bullets) width-is (out-first {G = withBullet false} (record { rise = λ S. omega arith }) (out-able-by r indent-is))
 
-    pub indent-small : AbleOut write s buf (indentText basic bullets) → width bullets s < 4611686018427387904
+    pub indent-small : AbleOut write s buf (indentText basic bullets) → width bullets s < lengthLimit
     indent-small r = omega (arith, run-small (replicate (width bullets s) 0x20) (indent-ready r), length-replicate {A = ℕ} (width bullets s) 0x20)
 
     pub indent-works : {w : Writer} {buf′ : Bytes} → Does write (s .writer) buf w buf′ (pushAll (replicate (width bullets s) 0x20)) → WorksOut write s buf (setBullet false (setWriter w s)) buf′ (indentText basic bullets)

@@ -5,7 +5,7 @@ use mathlib.Core.List.{List, []}
 use Prim.Native.Nat.{ℕ, _+_, _≤_, _<_}
 use lib.Dec.{ltb}
 use lib.ListN.{length}
-use Rattle.common.specs.Bytes.{Bytes}
+use Rattle.common.specs.Bytes.{Bytes, lengthLimit}
 use Rattle.options.specs.declared.Formatting.{Formatting}
 use Rattle.options.specs.declared.Formatting.the-variants.{Off, Basic, MinimalHtml}
 use Rattle.writer.specs.Out.{greater}
@@ -55,7 +55,7 @@ module _ (f : Formatting) (bullets : Bool) (write : Bool) where
   pub record ShowReady (p : Progress) (out piece : Bytes) : Type 0 where
     pub able : AbleOut write (p .serializer) out (showPiece f bullets (p .showing) piece)
     pub below : p .len ≤ p .need
-    pub small : p .len + length piece < 4611686018427387904
+    pub small : p .len + length piece < lengthLimit
 
   pub record Shows (p : Progress) (out : Bytes) (p′ : Progress) (out′ piece : Bytes) : Type 0 where
     pub works : WorksOut write (p .serializer) out (p′ .serializer) out′ (showPiece f bullets (p .showing) piece)

@@ -5,7 +5,7 @@ use mathlib.Core.List.{List, [], _∷_}
 use Prim.Native.Nat.{ℕ, _+_, _-_, _*_, _≤_, _<_}
 use lib.Dec.{eqb}
 use lib.ListN.{length, getD, take, replicate}
-use Rattle.common.specs.Bytes.{Bytes, codes}
+use Rattle.common.specs.Bytes.{Bytes, codes, lengthLimit}
 use Rattle.options.specs.Options.{isOff}
 use Rattle.options.specs.declared.Formatting.{Formatting}
 use Rattle.tags.specs.Tags.{isTr}
@@ -117,22 +117,22 @@ pub record WorksListed (write : Bool) (s : Serializer) (numbering : List ℕ) (o
 -- ---- what a step asks of its numbers: sums fit, and there is a place for a row or a level that opens
 
 pub record Limits (f : Formatting) (s : Serializer) (numbering : List ℕ) (cells : List Bool) (n : ExtractNode) : Type 0 where
-  pub margins : s .margins < 4611686018427387904
-  pub uncollapsed : s .uncollapsed < 4611686018427387904
+  pub margins : s .margins < lengthLimit
+  pub uncollapsed : s .uncollapsed < lengthLimit
   pub row : isTr (n .tag) ≡ true → n .end ≡ false → s .rows < length cells
   pub level : isOff f ≡ false → changesLevel (n .tag) (s .depth) ≡ true → n .end ≡ false → s .depth < length numbering
-  pub numbers : (i : ℕ) → i < s .depth → getD numbering i 0 < 4611686018427387904
+  pub numbers : (i : ℕ) → i < s .depth → getD numbering i 0 < lengthLimit
 
 -- what is asked where list levels are counted
 pub record ListLimits (s : Serializer) (numbering : List ℕ) (n : ExtractNode) : Type 0 where
-  pub margins : s .margins < 4611686018427387904
-  pub uncollapsed : s .uncollapsed < 4611686018427387904
+  pub margins : s .margins < lengthLimit
+  pub uncollapsed : s .uncollapsed < lengthLimit
   pub level : changesLevel (n .tag) (s .depth) ≡ true → n .end ≡ false → s .depth < length numbering
 
 -- the numbers of the levels that are open can be counted on
 pub record Numbers (s : Serializer) (numbering : List ℕ) : Type 0 where
   pub within : s .depth ≤ length numbering
-  pub small : (i : ℕ) → i < s .depth → getD numbering i 0 < 4611686018427387904
+  pub small : (i : ℕ) → i < s .depth → getD numbering i 0 < lengthLimit
 
 -- ---- small parts of a step
 

@@ -21,7 +21,7 @@ ghost use mathlib.Core.List.{[]};
 ghost use mathlib.Core.Path.{_≡_};
 ghost use Prim.Native.Nat.{_*_, _-_, _<_};
 ghost use lib.Dec.{eqb};
-ghost use Rattle.common.specs.Bytes.{codes};
+ghost use Rattle.common.specs.Bytes.{codes, lengthLimit};
 ghost use Rattle.html2text.specs.Serialize.{beforeTag, blockAfterMarks, blockAfterTag, finishHtml, htmlBr, htmlItem, htmlMarks, htmlPre, htmlTag, itemOut, one, opensTag, tagMargins, tagOut, wantsTag};
 ghost use Rattle.tags.specs.Tags.{isHeadingOrP, isLi, isList, nameOf};
 ghost use Rattle.writer.specs.Out.{pushAll};
@@ -139,7 +139,7 @@ fn opens_tag(n: ExtractNode, uncollapsed: usize) -> bool
 }
 
 fn tag_margins(n: ExtractNode, block: bool, margins: usize) -> usize
-    requires { ⌜ margins < 4611686018427387904 ⌝ }
+    requires { ⌜ margins < lengthLimit ⌝ }
     ensures { λ r. ⌜ r ≡ tagMargins n block margins ⌝ }
 {
     let size = one(block) + one(n.big_block);
@@ -151,7 +151,7 @@ fn tag_margins(n: ExtractNode, block: bool, margins: usize) -> usize
 
 // The margin before a tag.
 fn before_tag(s: Serializer, n: ExtractNode, block: bool, out: &mut [u8], write: bool) -> Serializer
-    requires { ⌜ s .margins < 4611686018427387904 ⌝ }
+    requires { ⌜ s .margins < lengthLimit ⌝ }
     requires { ⌜ AbleOut write s (now out) (beforeTag n block) ⌝ }
     ensures { λ r. ⌜ WorksOut write s (now (out .entry)) r (now (out .exit)) (beforeTag n block) ⌝ }
 {
@@ -264,7 +264,7 @@ fn html_tag(
     out: &mut [u8],
     write: bool,
 ) -> Serializer
-    requires { ⌜ s .margins < 4611686018427387904 ⌝ }
+    requires { ⌜ s .margins < lengthLimit ⌝ }
     requires { ⌜ AbleOut write s (now out) (htmlTag bullets n block) ⌝ }
     ensures { λ r. ⌜ WorksOut write s (now (out .entry)) r (now (out .exit)) (htmlTag bullets n block) ⌝ }
 {
@@ -313,7 +313,7 @@ pub fn finish_html(
     out: &mut [u8],
     write: bool,
 ) -> Serializer
-    requires { ⌜ s .margins < 4611686018427387904 ⌝ }
+    requires { ⌜ s .margins < lengthLimit ⌝ }
     requires { ⌜ AbleOut write s (now out) (finishHtml bullets n []) ⌝ }
     ensures { λ r. ⌜ WorksOut write s (now (out .entry)) r (now (out .exit)) (finishHtml bullets n []) ⌝ }
 {

@@ -10,6 +10,7 @@ ghost use mathlib.Core.Bool.{_&&_, false, not, true};
 ghost use mathlib.Core.Path.{_≡_};
 ghost use Prim.Native.Nat.{_-_, _<_, _≤_};
 ghost use lib.ListN.{length};
+ghost use Rattle.common.specs.Bytes.{lengthLimit};
 ghost use Rattle.html2text.specs.Serialize.{changesLevel, item, level, one};
 ghost use Rattle.tags.specs.Tags.{isLi, isOl};
 ghost use Rattle.serializer.specs.Serializing.{Numbers, WorksLevels, counted, lastNumber, levels, setBullet, setDepth, setPrefix};
@@ -75,7 +76,7 @@ fn is_uncollapsed(n: ExtractNode) -> bool
 
 // An explicit line end is counted.
 fn count_uncollapsed(s: Serializer, n: ExtractNode) -> Serializer
-    requires { ⌜ s .uncollapsed < 4611686018427387904 ⌝ }
+    requires { ⌜ s .uncollapsed < lengthLimit ⌝ }
     ensures { λ r. ⌜ r ≡ counted s n ⌝ }
 {
     if is_uncollapsed(n) {
@@ -87,7 +88,7 @@ fn count_uncollapsed(s: Serializer, n: ExtractNode) -> Serializer
 }
 
 pub fn levels(s: Serializer, n: ExtractNode, numbering: &mut [usize]) -> Serializer
-    requires { ⌜ s .uncollapsed < 4611686018427387904 ⌝ }
+    requires { ⌜ s .uncollapsed < lengthLimit ⌝ }
     requires { ⌜ (changesLevel (n .tag) (s .depth) ≡ true → n .end ≡ false → s .depth < length (now numbering)) ⌝ }
     ensures { λ r. ⌜ WorksLevels s (now (numbering .entry)) r (now (numbering .exit)) (levels n) ⌝ }
     ensures { λ r. ⌜ (Numbers s (now (numbering .entry)) → Numbers r (now (numbering .exit))) ⌝ }

@@ -6,6 +6,7 @@ ghost use mathlib.Core.Bool.{_&&_, cond};
 ghost use mathlib.Core.Path.{_≡_};
 ghost use Prim.Native.Nat.{_<_};
 ghost use lib.Dec.{eqb};
+ghost use Rattle.common.specs.Bytes.{lengthLimit};
 ghost use Rattle.html2text.specs.Serialize.{blockMargin, collapses, margin, marginOut, separated};
 ghost use Rattle.writer.specs.Writing.{Does, Ready, trimmed};
 ghost use Rattle.serializer.specs.Serializing.{AbleOut, WorksAlone, WorksOut};
@@ -80,7 +81,7 @@ fn is_big(n: ExtractNode) -> bool
 
 // A block asks for a margin; `block` is `n.block` there.
 pub fn block_margin(s: Serializer, block: bool, n: ExtractNode) -> Serializer
-    requires { ⌜ s .margins < 4611686018427387904 ⌝ }
+    requires { ⌜ s .margins < lengthLimit ⌝ }
     ensures { λ r. ⌜ WorksAlone s r (blockMargin block n) ⌝ }
 {
     if block {

@@ -18,6 +18,7 @@ ghost use mathlib.Core.Bool.{_&&_, false};
 ghost use mathlib.Core.List.{[]};
 ghost use mathlib.Core.Path.{_≡_};
 ghost use Prim.Native.Nat.{_<_};
+ghost use Rattle.common.specs.Bytes.{lengthLimit};
 ghost use Rattle.html2text.specs.Serialize.{after, afterBasic, afterHtml, afterOff, blockAfterTag, step};
 ghost use Rattle.html2text.specs.Showing.{droppedShowing};
 ghost use Rattle.options.specs.Options.{isOff};
@@ -43,7 +44,7 @@ fn is_dropped(n: ExtractNode) -> bool
 }
 
 fn after_off(s: Serializer, n: ExtractNode, bullets: bool) -> Serializer
-    requires { ⌜ s .margins < 4611686018427387904 ⌝ }
+    requires { ⌜ s .margins < lengthLimit ⌝ }
     ensures { λ r. ⌜ WorksAlone s r (afterOff bullets n []) ⌝ }
 {
     block_margin(s, n.block, n)
@@ -86,7 +87,7 @@ fn after(
     out: &mut [u8],
     write: bool,
 ) -> Serializer
-    requires { ⌜ (s .margins < 4611686018427387904) × (isOff f ≡ false → ListLimits s (now numbering) n) × Numbers s (now numbering) ⌝ }
+    requires { ⌜ (s .margins < lengthLimit) × (isOff f ≡ false → ListLimits s (now numbering) n) × Numbers s (now numbering) ⌝ }
     requires { ⌜ AbleListed write s (now numbering) (now out) (after f bullets n []) ⌝ }
     ensures { λ r. ⌜ WorksListed write s (now (numbering .entry)) (now (out .entry)) r (now (numbering .exit)) (now (out .exit)) (after f bullets n []) ⌝ }
 {

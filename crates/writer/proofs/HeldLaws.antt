@@ -8,7 +8,7 @@ use lib.Dec.{eqb}
 use lib.ListN.{length, take, drop, replicate, length-append}
 use lib.Seq.{sets, sets-eq, length-sets, take-at, take-take}
 use borrow.Author.Tests.{ne-eqb}
-use Rattle.common.specs.Bytes.{Bytes}
+use Rattle.common.specs.Bytes.{Bytes, lengthLimit}
 use Rattle.common.proofs.Choice.{by-cond}
 use Rattle.text.specs.Text.{isSpace, keeping, rstrip, rstripBy}
 use Rattle.text.specs.Theorems.{before}
@@ -74,7 +74,7 @@ module _ {write : Bool} {w : Writer} {buf : Bytes} (s : Bytes) (r : Ready write 
   reached : w .len + length s ≤ pushAll s (r .out) .peak
   reached = omega (arith, r .held .len, push-all-peak s (r .out) (r .held .below), greater-max (r .out .peak) (length (r .out .text) + length s))
 
-  pub run-small : w .len + length s < 4611686018427387904
+  pub run-small : w .len + length s < lengthLimit
   run-small = omega (arith, reached, r .room .small)
 
   pub run-room : write ≡ true → w .len + length s ≤ length buf

@@ -6,7 +6,7 @@ use Prim.Native.Nat.{ℕ, _+_, _≤_, _<_}
 use lib.Dec.{eqb}
 use lib.ListN.{length, take}
 use lib.Seq.{sets}
-use Rattle.common.specs.Bytes.{Bytes}
+use Rattle.common.specs.Bytes.{Bytes, lengthLimit}
 use Rattle.text.specs.Text.{rstrip}
 use Rattle.writer.specs.Out.{Out, greater}
 use Rattle.writer.specs.declared.Writer.{Writer}
@@ -23,7 +23,7 @@ pub record Held (write : Bool) (under : Bytes) (w : Writer) (buf : Bytes) (o : O
 
 -- Room for k bytes. The bound keeps sums of lengths below 2^64.
 pub record Room (write : Bool) (under : Bytes) (k : ℕ) : Type 0 where
-  pub small : k < 4611686018427387904
+  pub small : k < lengthLimit
   pub fits : write ≡ true → k ≤ length under
 
 -- The numbers and the buffer stand for a text, and there is room for what F makes of it.

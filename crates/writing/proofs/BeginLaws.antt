@@ -8,7 +8,7 @@ use lib.Dec.{leb}
 use lib.ListN.{length, getD, take}
 use lib.Seq.{getD-take}
 use borrow.Author.Tests.{leb-false, ne-eqb}
-use Rattle.common.specs.Bytes.{Bytes}
+use Rattle.common.specs.Bytes.{Bytes, lengthLimit}
 use Rattle.options.specs.Options.{isOff}
 use Rattle.options.specs.declared.ExtractOptions.{ExtractOptions}
 use Rattle.sheet.specs.declared.line.Layout.{Layout}
@@ -111,7 +111,7 @@ openedEntry p n b =
     }
 
 module _ {o : ExtractOptions} {write : Bool} {v : Visit} {p : OpenEntry} {a : Lent} (r : OpenReady o write v p a) where
-  pub open-nested : p .«pre_depth» < 4611686018427387904
+  pub open-nested : p .«pre_depth» < lengthLimit
   open-nested = omega (arith, r .standing .passes .nested, r .standing .deep)
 
   module _ {n : ExtractNode} (is : n ≡ nodeAfter o p v) where

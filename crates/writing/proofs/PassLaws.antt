@@ -8,7 +8,7 @@ use native.Mathlib.Omega.{arith}
 use lib.Dec.{eqb, leb}
 use lib.ListN.{length}
 use borrow.Author.Tests.{eqb-true}
-use Rattle.common.specs.Bytes.{Bytes}
+use Rattle.common.specs.Bytes.{Bytes, lengthLimit}
 use Rattle.common.proofs.Choice.{by-test, absurd-test, and-parts}
 use Rattle.common.proofs.TestLaws.{or-left, or-right, or-cases, or-neither}
 use Rattle.options.specs.Options.{isOff}
@@ -145,7 +145,7 @@ module _ {o : ExtractOptions} {s : Bytes} {l : Layout} {left : List Bool} where
       pub visit-less : length (passesLeft s l left x after) < length (passesLeft s l left w stack)
       visit-less = omega (arith, visited .2)
 
-      pub visit-line : v .row < 4611686018427387904
+      pub visit-line : v .row < lengthLimit
       visit-line = omega (arith, visited .0 .inside, visited .0 .accepted .sized .nodes)
 
       -- a limit is passed
@@ -173,7 +173,7 @@ module _ {o : ExtractOptions} {s : Bytes} {l : Layout} {left : List Bool} where
 
         -- none is
         module _ (rows : rowsPassAt v (p .progress .serializer .rows) ≡ false) (ready : WriteReady o s l left write under) where
-          room-before : {R : Run} {S : State} → R ≡ going S → S .out .peak < 4611686018427387904 → Onward R (closed o (runOf s l o left)) → Room write under (S .out .peak)
+          room-before : {R : Run} {S : State} → R ≡ going S → S .out .peak < lengthLimit → Onward R (closed o (runOf s l o left)) → Room write under (S .out .peak)
           room-before {S = S} is small onward =
               record {
                 small = small;

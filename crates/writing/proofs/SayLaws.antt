@@ -4,7 +4,7 @@ use mathlib.Core.Bool.{Bool, true, false, not, cond, Bool·not-not}
 use Prim.Native.Nat.{ℕ, _+_, _<_}
 use native.Mathlib.Omega.{arith}
 use lib.ListN.{length, length-append}
-use Rattle.common.specs.Bytes.{Bytes}
+use Rattle.common.specs.Bytes.{Bytes, lengthLimit}
 use Rattle.common.proofs.Choice.{by-test}
 use Rattle.common.proofs.TestLaws.{or-neither}
 use Rattle.options.specs.declared.ExtractOptions.{ExtractOptions}
@@ -58,7 +58,7 @@ module _ {o : ExtractOptions} {write : Bool} {under : Bytes} {p : OpenEntry} {a 
       let w = h .showing any in
       subst (λ (x : Showing). closed o (saidMore o piece F) ≡ going (showPiece (o .formatting) (o .«list_bullets») x piece (h .state))) (sym (w .is)) (closed-more o piece F any (w .run) (h .run))
 
-  said-ready : {S : State} → closed o (saidMore o piece F) ≡ going S → Room write under (S .out .peak) → saidMore o piece F .note .peak < 4611686018427387904
+  said-ready : {S : State} → closed o (saidMore o piece F) ≡ going S → Room write under (S .out .peak) → saidMore o piece F .note .peak < lengthLimit
       → ShowReady (o .formatting) (o .«list_bullets») write (p .progress) (a .out) piece
   said-ready {S} goes room small =
       let T = showPiece (o .formatting) (o .«list_bullets») (p .progress .showing) piece (h .state) in
@@ -112,7 +112,7 @@ module _ (o : ExtractOptions) {write : Bool} {s : Bytes} {l : Layout} {v : Visit
       let is = fed-said o e (t .fused) in
       rw (h .tag)
       (said-ready h (beginning-any o e (t .fused)) (added o (e .node) (e .end) (beginning o e (t .fused) .node .tag)) (subst (λ (G : Fused). closed o G ≡ going (r .after)) is (r .goes-on)) (r .room)
-      (subst (λ (G : Fused). G .note .peak < 4611686018427387904) is (r .small)))
+      (subst (λ (G : Fused). G .note .peak < lengthLimit) is (r .small)))
 
   pub visit-added : {q′ : Progress} {out : Bytes} → Shows (o .formatting) (o .«list_bullets») write (q .progress) (b .out) q′ out (added o (nodeAt s l (v .row)) (v .end) (q .tag))
       → PassDoes o write p a (saidEntry q q′) (lent (b .numbering) (b .cells) out) (fed o (eventOf s l v))

@@ -5,7 +5,7 @@ use mathlib.Core.List.{List, []}
 use Prim.Native.Nat.{ℕ, _+_, _≤_, _<_}
 use lib.Dec.{leb}
 use lib.ListN.{length}
-use Rattle.common.specs.Bytes.{Bytes}
+use Rattle.common.specs.Bytes.{Bytes, lengthLimit}
 use Rattle.options.specs.Options.{isOff}
 use Rattle.options.specs.declared.ExtractOptions.{ExtractOptions}
 use Rattle.options.specs.declared.Formatting.{Formatting}
@@ -73,7 +73,7 @@ pub record Standing (o : ExtractOptions) (write : Bool) (p : OpenEntry) (a : Len
   pub count : ℕ
   pub few : count ≤ mostEvents
   pub bounded : StateBounded (count + 1) (passes .state)
-  pub deep : fused .node .«pre_depth» < 4611686018427387904
+  pub deep : fused .node .«pre_depth» < lengthLimit
   pub levelled : Levelled a
 
 -- of every run that they stand for at first, they stand for G of it at last
@@ -101,7 +101,7 @@ pub record Opens (o : ExtractOptions) (write : Bool) (v : Visit) (p : OpenEntry)
 
 pub record PassReady (o : ExtractOptions) (write : Bool) (e : Event) (v : Visit) (p : OpenEntry) (a : Lent) : Type 0 where
   pub opens : OpenReady o write v p a
-  pub small : fed o e (opens .standing .fused) .note .peak < 4611686018427387904
+  pub small : fed o e (opens .standing .fused) .note .peak < lengthLimit
   pub after : State
   pub goes-on : closed o (fed o e (opens .standing .fused)) ≡ going after
   pub room : Room write (opens .standing .under) (after .out .peak)
