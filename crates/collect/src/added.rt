@@ -28,10 +28,6 @@ ghost use Rattle.writer.specs.Shown.{escapedIf};
 ghost use Rattle.serializer.specs.Progress.{ShowReady, Shows};
 ghost use Rattle.collect.specs.Visits.{Visits, fieldText, inputText};
 
-const A: u8 = 37;
-
-const INPUT: u8 = 42;
-
 // `attr(node, name)`
 fn attribute_value<'a, 'b>(s: &'a [u8], l: Layout, v: Visit, name: &'b [u8]) -> &'a [u8]
     requires { ⌜ Visits (now s) l v ⌝ }
@@ -226,7 +222,7 @@ fn shows_brackets(o: ExtractOptions, tag: u8) -> bool
 fn shows_input(o: ExtractOptions, tag: u8) -> bool
     ensures { λ r. ⌜ r ≡ (o .«form_fields» && isInput tag) ⌝ }
 {
-    o.form_fields && tag == INPUT
+    o.form_fields && tag == tags::INPUT
 }
 
 // What an element adds.
@@ -264,7 +260,7 @@ fn add_element(
 fn is_escaped(f: Formatting, current: u8) -> bool
     ensures { λ r. ⌜ r ≡ (isMinimalHtml f && isA current) ⌝ }
 {
-    is_minimal_html(f) && current == A
+    is_minimal_html(f) && current == tags::A
 }
 
 // What a visit to a row without a tag adds: a text, or an element that is not told apart, which has no value and adds nothing.
@@ -308,7 +304,7 @@ pub fn add(
     requires { ⌜ ShowReady (o .formatting) (o .«list_bullets») write p (now out) (added o (nodeAt (now s) l (v .row)) (v .end) current) ⌝ }
     ensures { λ r. ⌜ Shows (o .formatting) (o .«list_bullets») write p (now (out .entry)) r (now (out .exit)) (added o (nodeAt (now (s .entry)) l (v .row)) (v .end) current) ⌝ }
 {
-    if v.tag == 0 {
+    if v.tag == tags::OTHER {
         return add_text(o, s, l, v, current, p, out, write);
     }
     add_element(o, s, l, v, p, out, write)

@@ -7,34 +7,6 @@ ghost use Rattle.html2text.specs.Collect.{isBreak, isLink, pushesAfter};
 ghost use Rattle.options.specs.Options.{isBasic, isMinimalHtml};
 ghost use Rattle.tags.specs.Tags.{isBigBlock, isBlockTag, isButton, isCell, isImage, isPre, isTextarea};
 
-const TR: u8 = 1;
-
-const CELL: u8 = 2;
-
-const UL: u8 = 3;
-
-const PRE: u8 = 6;
-
-const BR: u8 = 7;
-
-const H1: u8 = 8;
-
-const H4: u8 = 11;
-
-const P: u8 = 14;
-
-const TABLE: u8 = 36;
-
-const A: u8 = 37;
-
-const TEXTAREA: u8 = 38;
-
-const IMG: u8 = 39;
-
-const AREA: u8 = 40;
-
-const BUTTON: u8 = 41;
-
 pub fn is_minimal_html(f: Formatting) -> bool
     ensures { λ r. ⌜ r ≡ isMinimalHtml f ⌝ }
 {
@@ -59,37 +31,37 @@ fn is_basic(f: Formatting) -> bool
 pub fn is_block(tag: u8) -> bool
     ensures { λ r. ⌜ r ≡ isBlockTag tag ⌝ }
 {
-    tag == TR || (UL <= tag && tag <= TABLE)
+    tag == tags::TR || (tags::UL <= tag && tag <= tags::TABLE)
 }
 
 pub fn is_big_block(tag: u8) -> bool
     ensures { λ r. ⌜ r ≡ isBigBlock tag ⌝ }
 {
-    if H1 <= tag {
-        if tag <= H4 {
+    if tags::H1 <= tag {
+        if tag <= tags::H4 {
             return true;
         }
-        return tag == P;
+        return tag == tags::P;
     }
-    tag == P
+    tag == tags::P
 }
 
 pub fn is_pre(tag: u8) -> bool
     ensures { λ r. ⌜ r ≡ (isPre tag || isTextarea tag) ⌝ }
 {
-    tag == PRE || tag == TEXTAREA
+    tag == tags::PRE || tag == tags::TEXTAREA
 }
 
 pub fn is_image(tag: u8) -> bool
     ensures { λ r. ⌜ r ≡ isImage tag ⌝ }
 {
-    tag == IMG || tag == AREA
+    tag == tags::IMG || tag == tags::AREA
 }
 
 pub fn is_bracketed(tag: u8) -> bool
     ensures { λ r. ⌜ r ≡ (isTextarea tag || isButton tag) ⌝ }
 {
-    tag == TEXTAREA || tag == BUTTON
+    tag == tags::TEXTAREA || tag == tags::BUTTON
 }
 
 // `name == "br" && opts.formatting == Formatting::Basic`
@@ -97,20 +69,20 @@ pub fn is_break(o: ExtractOptions, tag: u8) -> bool
     ensures { λ r. ⌜ r ≡ isBreak o tag ⌝ }
 {
     let f = o.formatting;
-    is_basic(f) && tag == BR
+    is_basic(f) && tag == tags::BR
 }
 
 // `opts.links && name == "a"`
 pub fn is_link(o: ExtractOptions, tag: u8) -> bool
     ensures { λ r. ⌜ r ≡ isLink o tag ⌝ }
 {
-    o.links && tag == A
+    o.links && tag == tags::A
 }
 
 fn is_textarea_or_cell(tag: u8) -> bool
     ensures { λ r. ⌜ r ≡ (isTextarea tag || isCell tag) ⌝ }
 {
-    tag == TEXTAREA || tag == CELL
+    tag == tags::TEXTAREA || tag == tags::CELL
 }
 
 // Whether a visit at depth opens an entry, where one is open already, of a row at depth last.

@@ -1,11 +1,5 @@
 // Reduced markup, formatting MinimalHtml.
-use crate::BR;
-use crate::H1;
-use crate::OL;
-use crate::P;
-use crate::PRE;
 use crate::Serializer;
-use crate::UL;
 use crate::is_list;
 use crate::less_one;
 use crate::lists::is_item;
@@ -65,7 +59,7 @@ fn html_pre(s: Serializer, n: ExtractNode, out: &mut [u8], write: bool) -> Seria
     requires { ⌜ AbleOut write s (now out) (htmlPre n) ⌝ }
     ensures { λ r. ⌜ WorksOut write s (now (out .entry)) r (now (out .exit)) (htmlPre n) ⌝ }
 {
-    if n.tag == PRE {
+    if n.tag == tags::PRE {
         if n.end {
             let w = writer::put(s.writer, b"</pre>", out, write);
             let mut r = s;
@@ -87,7 +81,7 @@ fn html_br(s: Serializer, n: ExtractNode, out: &mut [u8], write: bool) -> Serial
     requires { ⌜ AbleOut write s (now out) (htmlBr n) ⌝ }
     ensures { λ r. ⌜ WorksOut write s (now (out .entry)) r (now (out .exit)) (htmlBr n) ⌝ }
 {
-    if n.tag == BR {
+    if n.tag == tags::BR {
         let w = writer::put(s.writer, b"<br>", out, write);
         let mut r = s;
         r.writer = w;
@@ -115,7 +109,7 @@ pub fn html_marks(
 fn is_heading_or_p(tag: u8) -> bool
     ensures { λ r. ⌜ r ≡ isHeadingOrP tag ⌝ }
 {
-    H1 <= tag && tag <= P
+    tags::H1 <= tag && tag <= tags::P
 }
 
 // `n.has_children && (matches!(..) || (list && opts.list_bullets))`
@@ -213,17 +207,17 @@ fn put_name(w: Writer, tag: u8, out: &mut [u8], write: bool) -> Writer
     requires { ⌜ Ready write w (now out) (pushAll (nameOf tag)) ⌝ }
     ensures { λ r. ⌜ Does write w (now (out .entry)) r (now (out .exit)) (pushAll (nameOf tag)) ⌝ }
 {
-    if tag == UL {
+    if tag == tags::UL {
         return writer::put(w, b"ul", out, write);
     }
-    if tag == OL {
+    if tag == tags::OL {
         return writer::put(w, b"ol", out, write);
     }
-    if tag == P {
+    if tag == tags::P {
         return writer::put(w, b"p", out, write);
     }
     let q = writer::push(w, 104, out, write);
-    writer::push(q, 49 + (tag - H1), out, write)
+    writer::push(q, 49 + (tag - tags::H1), out, write)
 }
 
 fn end_tag(w: Writer, line: bool, out: &mut [u8], write: bool) -> Writer

@@ -14,25 +14,6 @@ ghost use Rattle.html2text.specs.Serialize.{changesLevel, one};
 ghost use Rattle.tags.specs.Tags.{isList};
 ghost use Rattle.serializer.specs.Serializing.{noSerializer};
 
-// The numbers of the tags that are told apart (crates/tags).
-const TR: u8 = 1;
-
-const CELL: u8 = 2;
-
-const UL: u8 = 3;
-
-const OL: u8 = 4;
-
-const LI: u8 = 5;
-
-const PRE: u8 = 6;
-
-const BR: u8 = 7;
-
-const H1: u8 = 8;
-
-const P: u8 = 14;
-
 // The state of `serialize`. `numbering` and `row_has_cell` are lent; their first `depth` and `rows` elements are in use. prefix: what stands
 // before an item's text, 0 nothing, 1 a bullet, k + 1 the number k; bullet: 1 where `bullet`. Words alone, so that a copy has no gaps.
 pub struct Serializer {
@@ -105,12 +86,12 @@ pub fn less_one(x: usize) -> usize
 fn is_list(tag: u8) -> bool
     ensures { λ r. ⌜ r ≡ isList tag ⌝ }
 {
-    tag == UL || tag == OL
+    tag == tags::UL || tag == tags::OL
 }
 
 // Whether a list level opens or closes.
 pub fn changes_level(tag: u8, depth: usize) -> bool
     ensures { λ r. ⌜ r ≡ changesLevel tag depth ⌝ }
 {
-    is_list(tag) || (tag == LI && depth == 0)
+    is_list(tag) || (tag == tags::LI && depth == 0)
 }

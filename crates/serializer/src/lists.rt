@@ -1,6 +1,4 @@
 // List levels, and the prefixes of items.
-use crate::LI;
-use crate::OL;
 use crate::Serializer;
 use crate::changes_level;
 use crate::less_one;
@@ -18,7 +16,7 @@ ghost use Rattle.serializer.specs.Serializing.{Numbers, WorksLevels, cou
 fn first_number(tag: u8) -> usize
     ensures { λ r. ⌜ r ≡ one (isOl tag) ⌝ }
 {
-    if tag == OL {
+    if tag == tags::OL {
         return 1;
     }
     0
@@ -100,7 +98,7 @@ pub fn levels(s: Serializer, n: ExtractNode, numbering: &mut [usize]) -> Seriali
 pub fn is_item(bullets: bool, n: ExtractNode) -> bool
     ensures { λ r. ⌜ r ≡ (bullets && isLi (n .tag)) ⌝ }
 {
-    bullets && n.tag == LI
+    bullets && n.tag == tags::LI
 }
 
 // The number of the innermost level.

@@ -1,7 +1,5 @@
 // Rows of tables, and their cells.
-use crate::CELL;
 use crate::Serializer;
-use crate::TR;
 use crate::less_one;
 use crate::margins::collapses;
 use crate::margins::margin;
@@ -21,7 +19,7 @@ pub fn rows(s: Serializer, n: ExtractNode, cells: &mut [bool]) -> Serializer
     requires { ⌜ (isTr (n .tag) ≡ true → n .end ≡ false → s .rows < length (now cells)) ⌝ }
     ensures { λ r. ⌜ WorksRows s (now (cells .entry)) r (now (cells .exit)) (rows n) ⌝ }
 {
-    if n.tag == TR {
+    if n.tag == tags::TR {
         let mut r = s;
         if n.end {
             r.rows = less_one(s.rows);
@@ -83,7 +81,7 @@ pub fn cell(
     requires { ⌜ AbleCells write s (now cells) (now out) (cell off n) ⌝ }
     ensures { λ r. ⌜ WorksCells write s (now (cells .entry)) (now (out .entry)) r (now (cells .exit)) (now (out .exit)) (cell off n) ⌝ }
 {
-    if n.tag == CELL {
+    if n.tag == tags::CELL {
         let a = margin(s, collapses(off, n), off, out, write);
         return in_row(a, off, cells, out, write);
     }

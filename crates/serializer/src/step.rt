@@ -1,6 +1,5 @@
 // An entry of `serialize`, all but its text.
 use crate::Begun;
-use crate::CELL;
 use crate::Serializer;
 use crate::html::block_after_tag;
 use crate::html::finish_html;
@@ -40,7 +39,7 @@ pub fn is_off(f: Formatting) -> bool
 fn is_dropped(n: ExtractNode) -> bool
     ensures { λ r. ⌜ r ≡ (isCell (n .tag) && n .end) ⌝ }
 {
-    n.tag == CELL && n.end
+    n.tag == tags::CELL && n.end
 }
 
 fn after_off(s: Serializer, n: ExtractNode, bullets: bool) -> Serializer

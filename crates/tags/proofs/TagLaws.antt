@@ -8,7 +8,7 @@ use borrow.Author.Tests.{not-true}
 use Rattle.common.specs.Bytes.{Bytes, codes, same}
 use Rattle.common.proofs.Choice.{by-test, absurd-test, and-parts}
 use Rattle.common.proofs.Equality.{same-true}
-use Rattle.tags.specs.Tags.{tagNames, tagOf, nameOf, isBlock, isTr, isCell, isUl, isOl, isList, isLi, isPre, isBr, isHeadingOrP, isBigBlock, isBlockTag, isA, isTextarea, isImage, isButton, isInput, isArticle, isDiv, isFooter, isADivOrLi, TagsTellNames}
+use Rattle.tags.specs.Tags.{tagNames, tagOf, nameOf, isBlock, isTr, isCell, isUl, isOl, isList, isLi, isPre, isBr, isHeadingOrP, isBigBlock, isBlockTag, isA, isTextarea, isImage, isButton, isInput, isArticle, isDiv, isFooter, isADivOrLi, NumbersOfNames, TagsTellNames}
 use Rattle.tags.specs.Words.{words, firstWord, otherWords, is, oneOf, numberFrom}
 use Rattle.tags.proofs.WordLaws.{each, each-at, no-number, one-word, by-words}
 
@@ -36,6 +36,10 @@ told test ws t =
 -- of one name
 pub told-one : (test : ℕ → Bool) (w : Bytes) → tells test (w ∷ []) ≡ true → (name : Bytes) → test (tagOf name) ≡ same name w
 told-one test w t name = told test (w ∷ []) t name ∙ one-word name w
+
+pub numbers-of-names : NumbersOfNames
+unfolding tagOf tagNames numberFrom words codes same firstWord otherWords
+numbers-of-names = refl
 
 isWritten : ℕ → Bool
 isWritten t = isHeadingOrP t || isList t

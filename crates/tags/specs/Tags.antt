@@ -1,11 +1,12 @@
 -- Element names: `is_block` of html2text.rs, and the names that `collect` and `serialize` tell apart, as numbers.
 use mathlib.Core.Path.{_≡_}
 use mathlib.Core.Bool.{Bool, true, _&&_, _||_, cond}
-use mathlib.Core.List.{List, [], _∷_}
+use mathlib.Core.List.{List, [], _∷_, map}
 use Prim.Native.Nat.{ℕ, _-_}
 use lib.Dec.{eqb, leb}
 use lib.ListN.{getD}
 use Rattle.common.specs.Bytes.{Bytes, codes}
+use Rattle.tags.specs.Numbers.{tr, cell, ul, ol, li, pre, br, h1, h4, p, article, div, footer, table, a, textarea, img, area, button, input}
 use Rattle.tags.specs.Words.{words, is, oneOf, numberOf}
 
 -- `is_block`
@@ -28,71 +29,77 @@ nameOf t = getD tagNames (t - 1) []
 
 -- `n.tag == "tr"` and so on, on numbers
 abbrev pub isTr : ℕ → Bool
-isTr t = eqb t 1
+isTr t = eqb t tr
 
 -- `matches!(n.tag.as_str(), "td" | "th")`
 abbrev pub isCell : ℕ → Bool
-isCell t = eqb t 2
+isCell t = eqb t cell
 
 abbrev pub isUl : ℕ → Bool
-isUl t = eqb t 3
+isUl t = eqb t ul
 
 abbrev pub isOl : ℕ → Bool
-isOl t = eqb t 4
+isOl t = eqb t ol
 
 -- `matches!(n.tag.as_str(), "ul" | "ol")`
 abbrev pub isList : ℕ → Bool
 isList t = isUl t || isOl t
 
 abbrev pub isLi : ℕ → Bool
-isLi t = eqb t 5
+isLi t = eqb t li
 
 abbrev pub isPre : ℕ → Bool
-isPre t = eqb t 6
+isPre t = eqb t pre
 
 abbrev pub isBr : ℕ → Bool
-isBr t = eqb t 7
+isBr t = eqb t br
 
 -- `matches!(n.tag.as_str(), "h1" | "h2" | "h3" | "h4" | "h5" | "h6" | "p")`
 abbrev pub isHeadingOrP : ℕ → Bool
-isHeadingOrP t = leb 8 t && leb t 14
+isHeadingOrP t = leb h1 t && leb t p
 
 -- `matches!(name.as_str(), "p" | "h1" | "h2" | "h3" | "h4")`
 abbrev pub isBigBlock : ℕ → Bool
-isBigBlock t = (leb 8 t && leb t 11) || eqb t 14
+isBigBlock t = (leb h1 t && leb t h4) || eqb t p
 
 abbrev pub isBlockTag : ℕ → Bool
-isBlockTag t = isTr t || (leb 3 t && leb t 36)
+isBlockTag t = isTr t || (leb ul t && leb t table)
 
 abbrev pub isA : ℕ → Bool
-isA t = eqb t 37
+isA t = eqb t a
 
 abbrev pub isTextarea : ℕ → Bool
-isTextarea t = eqb t 38
+isTextarea t = eqb t textarea
 
 -- `matches!(name.as_str(), "img" | "area")`
 abbrev pub isImage : ℕ → Bool
-isImage t = eqb t 39 || eqb t 40
+isImage t = eqb t img || eqb t area
 
 abbrev pub isButton : ℕ → Bool
-isButton t = eqb t 41
+isButton t = eqb t button
 
 abbrev pub isInput : ℕ → Bool
-isInput t = eqb t 42
+isInput t = eqb t input
 
 -- those that filters.rs tells apart besides
 abbrev pub isArticle : ℕ → Bool
-isArticle t = eqb t 16
+isArticle t = eqb t article
 
 abbrev pub isDiv : ℕ → Bool
-isDiv t = eqb t 23
+isDiv t = eqb t div
 
 abbrev pub isFooter : ℕ → Bool
-isFooter t = eqb t 28
+isFooter t = eqb t footer
 
 -- `matches!(name.as_str(), "a" | "div" | "li")`
 abbrev pub isADivOrLi : ℕ → Bool
 isADivOrLi t = isA t || (isDiv t || isLi t)
+
+-- what is to be shown: each number is that of its name
+abbrev pub NumbersOfNames : Type 0
+NumbersOfNames =
+    map tagOf (words "tr td th ul ol li pre br h1 h4 p article div footer table a textarea img area button input")
+    ≡ tr ∷ cell ∷ cell ∷ ul ∷ ol ∷ li ∷ pre ∷ br ∷ h1 ∷ h4 ∷ p ∷ article ∷ div ∷ footer ∷ table ∷ a ∷ textarea ∷ img ∷ area ∷ button ∷ input ∷ []
 
 -- what is to be shown: each test on the number says what the Rust's test on the name says
 pub record TagTests (name : Bytes) : Type 0 where

@@ -1,6 +1,6 @@
-// What is shown of the tests on a tag's number, as a contract.
-ghost use Rattle.tags.specs.Tags.{TagsTellNames};
+// What is shown of the tags' numbers and the tests on them, as a contract.
+ghost use Rattle.tags.specs.Tags.{NumbersOfNames, TagsTellNames};
 
 pub fn theorems()
-    ensures { λ r. ⌜ TagsTellNames ⌝ }
+    ensures { λ r. ⌜ TagsTellNames × NumbersOfNames ⌝ }
 {}
