@@ -7,6 +7,7 @@ use lib.ListN.{getD, length}
 use Rattle.common.specs.Bytes.{Bytes, lengthLimit}
 use Rattle.patterns.specs.Candidates.{MaskTable}
 use Rattle.patterns.specs.Match.{matchesOf}
+use Rattle.patterns.specs.Patterns.{patternCount}
 use Rattle.patterns.specs.Steps.{stepCodes}
 
 -- one of the patterns with these numbers matches
@@ -17,7 +18,7 @@ anyMatch (p ∷ []) s = matchesOf p s
 anyMatch (p ∷ q ∷ ps) s = matchesOf p s || anyMatch (q ∷ ps) s
 
 abbrev pub ArePatterns : List ℕ → Type 0
-ArePatterns numbers = (k : ℕ) → getD numbers k 0 < 21
+ArePatterns numbers = (k : ℕ) → getD numbers k 0 < patternCount
 
 -- the tables of the patterns
 pub record Tables (steps masks : List ℕ) : Type 0 where

@@ -4,4 +4,5 @@ pub mod Filters
 pub mod Footer
 pub mod Gathered
 pub mod Icon
+pub mod Numbers
 pub mod Sheet

@@ -9,7 +9,34 @@ ghost use lib.ListN.{getD, length, replicate};
 ghost use Rattle.common.specs.Bytes.{same};
 ghost use Rattle.sheet.specs.Accepted.{Accepted};
 ghost use Rattle.sheet.specs.Layout.{poolLimit};
-ghost use Rattle.filters.specs.Gathered.{attributeNumber, Readable, slotValue, SlotInside, Slots};
+ghost use Rattle.filters.specs.Gathered.{attributeNumber, Readable, slotCount, slotValue, SlotInside, Slots};
+
+// The numbers of the names, their slots; slot 0 is for all others.
+pub const HIDDEN: usize = 1;
+
+pub const REL: usize = 2;
+
+pub const ITEMPROP: usize = 3;
+
+pub const ARIA_HIDDEN: usize = 4;
+
+pub const ARIA_EXPANDED: usize = 5;
+
+pub const CLASS: usize = 6;
+
+pub const ID: usize = 7;
+
+pub const STYLE: usize = 8;
+
+pub const ROLE: usize = 9;
+
+pub const DATA_AD: usize = 10;
+
+pub const DATA_ADVERTISEMENT: usize = 11;
+
+pub const DATA_TEXT_AD: usize = 12;
+
+pub const SLOTS: usize = 13;
 
 // The number of a word that a name may be.
 fn number_if(name: &[u8], word: &[u8], number: usize) -> usize
@@ -26,9 +53,9 @@ fn class_or_style(name: &[u8]) -> usize
     ensures { λ r. ⌜ r ≡ attributeNumber (now (name .entry)) ⌝ }
 {
     if common::same(name, b"class") {
-        return 6;
+        return CLASS;
     }
-    number_if(name, b"style", 8)
+    number_if(name, b"style", STYLE)
 }
 
 // The number of a name: at most one word, or two of 5 bytes, have its length.
@@ -36,17 +63,17 @@ fn attribute_number(name: &[u8]) -> usize
     ensures { λ r. ⌜ r ≡ attributeNumber (now (name .entry)) ⌝ }
 {
     match name.len() {
-        2 => number_if(name, b"id", 7),
-        3 => number_if(name, b"rel", 2),
-        4 => number_if(name, b"role", 9),
+        2 => number_if(name, b"id", ID),
+        3 => number_if(name, b"rel", REL),
+        4 => number_if(name, b"role", ROLE),
         5 => class_or_style(name),
-        6 => number_if(name, b"hidden", 1),
-        7 => number_if(name, b"data-ad", 10),
-        8 => number_if(name, b"itemprop", 3),
-        11 => number_if(name, b"aria-hidden", 4),
-        12 => number_if(name, b"data-text-ad", 12),
-        13 => number_if(name, b"aria-expanded", 5),
-        18 => number_if(name, b"data-advertisement", 11),
+        6 => number_if(name, b"hidden", HIDDEN),
+        7 => number_if(name, b"data-ad", DATA_AD),
+        8 => number_if(name, b"itemprop", ITEMPROP),
+        11 => number_if(name, b"aria-hidden", ARIA_HIDDEN),
+        12 => number_if(name, b"data-text-ad", DATA_TEXT_AD),
+        13 => number_if(name, b"aria-expanded", ARIA_EXPANDED),
+        18 => number_if(name, b"data-advertisement", DATA_ADVERTISEMENT),
         _ => 0,
     }
 }
@@ -57,10 +84,10 @@ pub fn gather(
     l: Layout,
     from: usize,
     count: usize,
-    starts: &mut [usize; 13],
-    lengths: &mut [usize; 13],
+    starts: &mut [usize; SLOTS],
+    lengths: &mut [usize; SLOTS],
 )
-    requires { ⌜ Accepted (now s) l × (from + count ≤ l .attributes) × (now starts ≡ replicate 13 0) × (now lengths ≡ replicate 13 0) ⌝ }
+    requires { ⌜ Accepted (now s) l × (from + count ≤ l .attributes) × (now starts ≡ replicate slotCount 0) × (now lengths ≡ replicate slotCount 0) ⌝ }
     ensures { λ r. ⌜ Slots (now (s .entry)) l from count (now (starts .exit)) (now (lengths .exit)) ⌝ }
 {
     let mut n = count;
@@ -88,11 +115,11 @@ pub fn value(s: &[u8], l: Layout, at: usize, len: usize) -> &[u8]
 pub fn held<'a, 'b, 'c>(
     s: &'a [u8],
     l: Layout,
-    starts: &'b [usize; 13],
-    lengths: &'c [usize; 13],
+    starts: &'b [usize; SLOTS],
+    lengths: &'c [usize; SLOTS],
     k: usize,
 ) -> &'a [u8]
-    requires { ⌜ Accepted (now s) l × Readable l (now starts) (now lengths) × (k < 13) ⌝ }
+    requires { ⌜ Accepted (now s) l × Readable l (now starts) (now lengths) × (k < slotCount) ⌝ }
     ensures { λ r. ⌜ (now r ≡ slotValue (now (s .entry)) l (getD (now (starts .entry)) k 0) (getD (now (lengths .entry)) k 0)) × (length (now r) ≤ poolLimit (l .width)) ⌝ }
 {
     value(s, l, starts[k], lengths[k])

@@ -1,6 +1,8 @@
 // Tests on class and id. A set of candidates goes with each text that is searched: the class alone, or class and id as one.
+use patterns::masks::Masks;
 use patterns::matches_among;
 use patterns::matches_joined;
+use patterns::table::Steps;
 ghost use mathlib.Core.Bool.{_&&_, _||_};
 ghost use mathlib.Core.List.{[]};
 ghost use mathlib.Core.Path.{_≡_};
@@ -14,8 +16,8 @@ ghost use Rattle.filters.specs.Filters.{commentSection, landmark, notDis
 
 // Whether one of the patterns matches.
 pub fn any_among(
-    steps: &[u16; 2059],
-    masks: &[u32; 4352],
+    steps: &Steps,
+    masks: &Masks,
     set: u32,
     numbers: &[usize],
     class: &[u8],
@@ -35,8 +37,8 @@ pub fn any_among(
 }
 
 pub fn not_displayed(
-    steps: &[u16; 2059],
-    masks: &[u32; 4352],
+    steps: &Steps,
+    masks: &Masks,
     set: u32,
     hidden_elements: bool,
     class: &[u8],
@@ -46,46 +48,39 @@ pub fn not_displayed(
     ensures { λ r. ⌜ r ≡ notDisplayed «hidden_elements» (now (class .entry)) (now (style .entry)) ⌝ }
 {
     if hidden_elements {
-        return matches_joined(steps, masks, 11, b"", style);
+        return matches_joined(steps, masks, patterns::DISPLAY_CSS, b"", style);
     }
-    if matches_among(steps, masks, set, 10, b"", class) {
+    if matches_among(steps, masks, set, patterns::DISPLAY_CLS, b"", class) {
         return true;
     }
-    matches_joined(steps, masks, 11, b"", style)
+    matches_joined(steps, masks, patterns::DISPLAY_CSS, b"", style)
 }
 
 fn is_a_div_or_li(tag: u8) -> bool
     ensures { λ r. ⌜ r ≡ isADivOrLi tag ⌝ }
 {
-    if tag == 37 {
+    if tag == tags::A {
         return true;
     }
-    if tag == 23 {
+    if tag == tags::DIV {
         return true;
     }
-    tag == 5
+    tag == tags::LI
 }
 
-pub fn skip_link(
-    steps: &[u16; 2059],
-    masks: &[u32; 4352],
-    set: u32,
-    tag: u8,
-    class: &[u8],
-    id: &[u8],
-) -> bool
+pub fn skip_link(steps: &Steps, masks: &Masks, set: u32, tag: u8, class: &[u8], id: &[u8]) -> bool
     requires { ⌜ Tables (now steps) (now masks) × Joinable (now class) (now id) × Candidates set (joined (now class) (now id)) ⌝ }
     ensures { λ r. ⌜ r ≡ (isADivOrLi tag && finds skipLinkCls (joined (now (class .entry)) (now (id .entry)))) ⌝ }
 {
     if is_a_div_or_li(tag) {
-        return matches_among(steps, masks, set, 9, class, id);
+        return matches_among(steps, masks, set, patterns::SKIP_LINK_CLS, class, id);
     }
     false
 }
 
 pub fn signin_meta_or_social(
-    steps: &[u16; 2059],
-    masks: &[u32; 4352],
+    steps: &Steps,
+    masks: &Masks,
     set: u32,
     post_meta: bool,
     depth: usize,
@@ -98,16 +93,20 @@ pub fn signin_meta_or_social(
         return false;
     }
     if post_meta {
-        let numbers = [14usize, 16];
+        let numbers = [patterns::SIGNIN_CLS, patterns::SOCIAL_CLS];
         return any_among(steps, masks, set, &numbers, b"", class);
     }
-    let numbers = [14usize, 6, 16];
+    let numbers = [
+        patterns::SIGNIN_CLS,
+        patterns::POST_META_CLS,
+        patterns::SOCIAL_CLS,
+    ];
     any_among(steps, masks, set, &numbers, b"", class)
 }
 
 pub fn comment_section(
-    steps: &[u16; 2059],
-    masks: &[u32; 4352],
+    steps: &Steps,
+    masks: &Masks,
     set: u32,
     comments: bool,
     class: &[u8],
@@ -119,33 +118,36 @@ pub fn comment_section(
     if comments {
         return false;
     }
-    matches_among(steps, masks, set, 17, class, id)
+    matches_among(steps, masks, set, patterns::COMMENTS_CLS, class, id)
 }
 
-pub fn article(
-    steps: &[u16; 2059],
-    masks: &[u32; 4352],
-    set: u32,
-    tag: u8,
-    class: &[u8],
-    id: &[u8],
-) -> bool
+pub fn article(steps: &Steps, masks: &Masks, set: u32, tag: u8, class: &[u8], id: &[u8]) -> bool
     requires { ⌜ Tables (now steps) (now masks) × Joinable (now class) (now id) × Candidates set (joined (now class) (now id)) ⌝ }
     ensures { λ r. ⌜ r ≡ (isArticle tag || finds articleCls (joined (now (class .entry)) (now (id .entry)))) ⌝ }
 {
-    if tag == 16 {
+    if tag == tags::ARTICLE {
         return true;
     }
-    matches_among(steps, masks, set, 0, class, id)
+    matches_among(steps, masks, set, patterns::ARTICLE_CLS, class, id)
 }
 
-pub fn landmark(steps: &[u16; 2059], masks: &[u32; 4352], set: u32, class: &[u8], id: &[u8]) -> bool
+pub fn landmark(steps: &Steps, masks: &Masks, set: u32, class: &[u8], id: &[u8]) -> bool
     requires { ⌜ Tables (now steps) (now masks) × Joinable (now class) (now id) × Candidates set (joined (now class) (now id)) ⌝ }
     ensures { λ r. ⌜ r ≡ landmark (now (id .entry)) (joined (now (class .entry)) (now (id .entry))) ⌝ }
 {
-    if matches_joined(steps, masks, 3, b"", id) {
+    if matches_joined(steps, masks, patterns::LANDMARK_ID, b"", id) {
         return true;
     }
-    let numbers = [4usize, 5, 1, 2, 8, 7, 12, 13, 19];
+    let numbers = [
+        patterns::HEADER_CLS,
+        patterns::FOOTER_CLS,
+        patterns::NAV_CLS,
+        patterns::RECOMMENDED_CLS,
+        patterns::SEARCH_CLS,
+        patterns::SIDEBAR_CLS,
+        patterns::MODAL_CLS,
+        patterns::GALLERY_CLS,
+        patterns::PRINT_CLS,
+    ];
     any_among(steps, masks, set, &numbers, class, id)
 }

@@ -40,7 +40,7 @@ pub fn ul_cluster(s: &[u8], l: Layout, i: usize, tag: u8, depth: usize) -> bool
     requires { ⌜ Accepted (now s) l × (i < l .nodes) ⌝ }
     ensures { λ r. ⌜ r ≡ (isUl tag && (ltb depth 4 || clusterAt (now (s .entry)) l i fifthOfAny)) ⌝ }
 {
-    if tag != 3 {
+    if tag != tags::UL {
         return false;
     }
     near_or_cluster(s, l, i, depth, 4)
@@ -60,7 +60,7 @@ pub fn article_cluster(s: &[u8], l: Layout, i: usize, tag: u8, depth: usize) -> 
     requires { ⌜ Accepted (now s) l × (i < l .nodes) ⌝ }
     ensures { λ r. ⌜ r ≡ (isArticle tag && (ltb 2 depth && clusterAt (now (s .entry)) l i fifthOf500)) ⌝ }
 {
-    if tag != 16 {
+    if tag != tags::ARTICLE {
         return false;
     }
     deep_cluster(s, l, i, depth, Rule::fifth_of_500())
@@ -71,7 +71,7 @@ pub fn unnamed(s: &[u8], l: Layout, i: usize, tag: u8, depth: usize) -> bool
     requires { ⌜ Accepted (now s) l × (i < l .nodes) ⌝ }
     ensures { λ r. ⌜ r ≡ (not (isDiv tag) || (leb depth 5 || not (clusterAt (now (s .entry)) l i threeFifthsOf800))) ⌝ }
 {
-    if tag != 23 {
+    if tag != tags::DIV {
         return true;
     }
     if depth <= 5 {
@@ -84,7 +84,7 @@ pub fn div_cluster(s: &[u8], l: Layout, i: usize, tag: u8, depth: usize) -> bool
     requires { ⌜ Accepted (now s) l × (i < l .nodes) ⌝ }
     ensures { λ r. ⌜ r ≡ (ltb 2 depth && (isDiv tag && clusterAt (now (s .entry)) l i threeFifthsOf1500)) ⌝ }
 {
-    if tag != 23 {
+    if tag != tags::DIV {
         return false;
     }
     deep_cluster(s, l, i, depth, Rule::three_fifths_of_1500())

@@ -1,5 +1,7 @@
 // `is_main_content`, a function for each stage of its definition. `set` has the candidates of the class, `both` those of class and id
 // as one text.
+use crate::attributes;
+use crate::attributes::SLOTS;
 use crate::attributes::gather;
 use crate::attributes::held;
 use crate::classes::article;
@@ -23,7 +25,9 @@ use crate::values::rel_main;
 use crate::values::role_outside;
 use options::ExtractOptions;
 use patterns::candidates;
+use patterns::masks::Masks;
 use patterns::matches_among;
+use patterns::table::Steps;
 use sheet::line::Layout;
 use sheet::read::part;
 use sheet::read::row_at;
@@ -49,41 +53,38 @@ ghost use Rattle.filters.specs.Gathered.{Gathered, Readable};
 ghost use Rattle.filters.specs.Sheet.{clusterAt, IsTag, tagNumber};
 
 fn logo_or_ad(
-    steps: &[u16; 2059],
-    masks: &[u32; 4352],
+    steps: &Steps,
+    masks: &Masks,
     set: u32,
     both: u32,
-    starts: &[usize; 13],
+    starts: &[usize; SLOTS],
     class: &[u8],
     id: &[u8],
 ) -> bool
     requires { ⌜ Tables (now steps) (now masks) × Joinable (now class) (now id) × Candidates set (now class) × Candidates both (joined (now class) (now id)) ⌝ }
     ensures { λ r. ⌜ ((s : List ℕ) (l : Layout) (attributes : List Attribute) (lengths : List ℕ) → Gathered s l attributes (now (starts .entry)) lengths → r ≡ logoOrAd attributes (now (class .entry)) (joined (now (class .entry)) (now (id .entry)))) ⌝ }
 {
-    // LOGO_CLS
-    if matches_among(steps, masks, both, 18, class, id) {
+    if matches_among(steps, masks, both, patterns::LOGO_CLS, class, id) {
         return true;
     }
-    // ADS_CLS
-    if matches_among(steps, masks, both, 15, class, id) {
+    if matches_among(steps, masks, both, patterns::ADS_CLS, class, id) {
         return true;
     }
     if ad_attribute(starts) {
         return true;
     }
-    // OTHER_JUNK_CLS
-    matches_among(steps, masks, set, 20, b"", class)
+    matches_among(steps, masks, set, patterns::OTHER_JUNK_CLS, b"", class)
 }
 
 // From `rel` being "main" on.
 fn by_block(
-    steps: &[u16; 2059],
-    masks: &[u32; 4352],
+    steps: &Steps,
+    masks: &Masks,
     both: u32,
     s: &[u8],
     l: Layout,
-    starts: &[usize; 13],
-    lengths: &[usize; 13],
+    starts: &[usize; SLOTS],
+    lengths: &[usize; SLOTS],
     o: ExtractOptions,
     i: usize,
     tag: u8,
@@ -114,13 +115,13 @@ fn by_block(
 
 // From `combined` on.
 fn by_class_and_id(
-    steps: &[u16; 2059],
-    masks: &[u32; 4352],
+    steps: &Steps,
+    masks: &Masks,
     set: u32,
     s: &[u8],
     l: Layout,
-    starts: &[usize; 13],
-    lengths: &[usize; 13],
+    starts: &[usize; SLOTS],
+    lengths: &[usize; SLOTS],
     o: ExtractOptions,
     i: usize,
     name: &[u8],
@@ -173,12 +174,12 @@ fn are_empty(class: &[u8], id: &[u8]) -> bool
 
 // From `hidden` on.
 fn by_attributes(
-    steps: &[u16; 2059],
-    masks: &[u32; 4352],
+    steps: &Steps,
+    masks: &Masks,
     s: &[u8],
     l: Layout,
-    starts: &[usize; 13],
-    lengths: &[usize; 13],
+    starts: &[usize; SLOTS],
+    lengths: &[usize; SLOTS],
     o: ExtractOptions,
     i: usize,
     name: &[u8],
@@ -191,9 +192,9 @@ fn by_attributes(
     if hidden_by_attribute(s, l, starts, lengths) {
         return false;
     }
-    let class = held(s, l, starts, lengths, 6);
-    let id = held(s, l, starts, lengths, 7);
-    let style = held(s, l, starts, lengths, 8);
+    let class = held(s, l, starts, lengths, attributes::CLASS);
+    let id = held(s, l, starts, lengths, attributes::ID);
+    let style = held(s, l, starts, lengths, attributes::STYLE);
     let set = candidates(masks, b"", class);
     if not_displayed(steps, masks, set, o.hidden_elements, class, style) {
         return false;
@@ -221,8 +222,8 @@ fn by_attributes(
 
 // An element with count attribute lines from line first on.
 fn by_name(
-    steps: &[u16; 2059],
-    masks: &[u32; 4352],
+    steps: &Steps,
+    masks: &Masks,
     s: &[u8],
     l: Layout,
     o: ExtractOptions,
@@ -240,8 +241,7 @@ fn by_name(
     if is_kept(name, tag) {
         return true;
     }
-    // footer
-    if tag == 28 {
+    if tag == tags::FOOTER {
         return footer(s, l, i, depth, stack);
     }
     if ul_cluster(s, l, i, tag, depth) {
@@ -253,8 +253,8 @@ fn by_name(
     if is_dropped(name, tag) {
         return false;
     }
-    let mut starts = [0; 13];
-    let mut lengths = [0; 13];
+    let mut starts = [0; SLOTS];
+    let mut lengths = [0; SLOTS];
     gather(s, l, first, count, &mut starts, &mut lengths);
     by_attributes(
         steps,
@@ -273,8 +273,8 @@ fn by_name(
 
 // Row i, with the number of its tag, its first attribute line, its depth below body and the rows that it stands in.
 pub fn is_main_content(
-    steps: &[u16; 2059],
-    masks: &[u32; 4352],
+    steps: &Steps,
+    masks: &Masks,
     s: &[u8],
     l: Layout,
     o: ExtractOptions,

@@ -8,15 +8,13 @@ pub fn is_kept(name: &[u8], tag: u8) -> bool
     requires { ⌜ tag ≡ tagOf (now name) ⌝ }
     ensures { λ r. ⌜ r ≡ oneOf (now (name .entry)) (words "body main h1") ⌝ }
 {
-    // main
-    if tag == 33 {
+    if tag == tags::MAIN {
         return true;
     }
-    // h1
-    if tag == 8 {
+    if tag == tags::H1 {
         return true;
     }
-    if tag != 0 {
+    if tag != tags::OTHER {
         return false;
     }
     common::same(name, b"body")
@@ -26,15 +24,13 @@ pub fn is_dropped(name: &[u8], tag: u8) -> bool
     requires { ⌜ tag ≡ tagOf (now name) ⌝ }
     ensures { λ r. ⌜ r ≡ oneOf (now (name .entry)) (words "nav aside audio video time") ⌝ }
 {
-    // nav
-    if tag == 34 {
+    if tag == tags::NAV {
         return true;
     }
-    // aside
-    if tag == 17 {
+    if tag == tags::ASIDE {
         return true;
     }
-    if tag != 0 {
+    if tag != tags::OTHER {
         return false;
     }
     if common::same(name, b"audio") {
@@ -51,13 +47,13 @@ pub fn not_block(name: &[u8], tag: u8) -> bool
     requires { ⌜ tag ≡ tagOf (now name) ⌝ }
     ensures { λ r. ⌜ r ≡ notBlock (now (name .entry)) ⌝ }
 {
-    if tag == 0 {
+    if tag == tags::OTHER {
         return true;
     }
-    if 36 < tag {
+    if tags::TABLE < tag {
         return true;
     }
-    if tag == 2 {
+    if tag == tags::CELL {
         return !common::same(name, b"td");
     }
     false

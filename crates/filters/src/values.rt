@@ -1,4 +1,6 @@
 // Tests on the values of attributes.
+use crate::attributes;
+use crate::attributes::SLOTS;
 use crate::attributes::value;
 use sheet::line::Layout;
 ghost use mathlib.Core.Bool.{false};
@@ -12,18 +14,18 @@ ghost use Rattle.tags.specs.Words.{oneOf, wordsOf};
 ghost use Rattle.text.specs.Text.{trim};
 ghost use Rattle.tree.specs.Node.{Attribute};
 ghost use Rattle.filters.specs.Filters.{adAttribute, hiddenByAttribute, relMain, roleOutside};
-ghost use Rattle.filters.specs.Gathered.{Gathered, Readable, slotValue};
+ghost use Rattle.filters.specs.Gathered.{Gathered, Readable, slotCount, slotValue};
 
 // Whether the trimmed value in slot k is one of the words; an absent one is not.
 fn among(
     s: &[u8],
     l: Layout,
-    starts: &[usize; 13],
-    lengths: &[usize; 13],
+    starts: &[usize; SLOTS],
+    lengths: &[usize; SLOTS],
     k: usize,
     words: &[u8],
 ) -> bool
-    requires { ⌜ Accepted (now s) l × Readable l (now starts) (now lengths) × (k < 13) × (oneOf [] (wordsOf (now words)) ≡ false) ⌝ }
+    requires { ⌜ Accepted (now s) l × Readable l (now starts) (now lengths) × (k < slotCount) × (oneOf [] (wordsOf (now words)) ≡ false) ⌝ }
     ensures { λ r. ⌜ r ≡ oneOf (trim (slotValue (now (s .entry)) l (getD (now (starts .entry)) k 0) (getD (now (lengths .entry)) k 0))) (wordsOf (now (words .entry))) ⌝ }
 {
     let at = starts[k];
@@ -34,60 +36,64 @@ fn among(
     tags::one_of(text::trim(value(s, l, at, len)), words)
 }
 
-pub fn hidden_by_attribute(s: &[u8], l: Layout, starts: &[usize; 13], lengths: &[usize; 13]) -> bool
+pub fn hidden_by_attribute(
+    s: &[u8],
+    l: Layout,
+    starts: &[usize; SLOTS],
+    lengths: &[usize; SLOTS],
+) -> bool
     requires { ⌜ Accepted (now s) l × Readable l (now starts) (now lengths) ⌝ }
     ensures { λ r. ⌜ ((attributes : List Attribute) → Gathered (now (s .entry)) l attributes (now (starts .entry)) (now (lengths .entry)) → r ≡ hiddenByAttribute attributes) ⌝ }
 {
-    // hidden
-    if starts[1] != 0 {
+    if starts[attributes::HIDDEN] != 0 {
         return true;
     }
-    // rel
     if among(
         s,
         l,
         starts,
         lengths,
-        2,
+        attributes::REL,
         b"author icon search prev next tag",
     ) {
         return true;
     }
-    // itemprop
-    if among(s, l, starts, lengths, 3, b"datePublished author url") {
+    if among(
+        s,
+        l,
+        starts,
+        lengths,
+        attributes::ITEMPROP,
+        b"datePublished author url",
+    ) {
         return true;
     }
-    // aria-hidden
-    if among(s, l, starts, lengths, 4, b"true") {
+    if among(s, l, starts, lengths, attributes::ARIA_HIDDEN, b"true") {
         return true;
     }
-    // aria-expanded
-    among(s, l, starts, lengths, 5, b"false")
+    among(s, l, starts, lengths, attributes::ARIA_EXPANDED, b"false")
 }
 
-pub fn ad_attribute(starts: &[usize; 13]) -> bool
+pub fn ad_attribute(starts: &[usize; SLOTS]) -> bool
     ensures { λ r. ⌜ ((s : List ℕ) (l : Layout) (attributes : List Attribute) (lengths : List ℕ) → Gathered s l attributes (now (starts .entry)) lengths → r ≡ adAttribute attributes) ⌝ }
 {
-    // data-ad
-    if starts[10] != 0 {
+    if starts[attributes::DATA_AD] != 0 {
         return true;
     }
-    // data-advertisement
-    if starts[11] != 0 {
+    if starts[attributes::DATA_ADVERTISEMENT] != 0 {
         return true;
     }
-    // data-text-ad
-    starts[12] != 0
+    starts[attributes::DATA_TEXT_AD] != 0
 }
 
-pub fn rel_main(s: &[u8], l: Layout, starts: &[usize; 13], lengths: &[usize; 13]) -> bool
+pub fn rel_main(s: &[u8], l: Layout, starts: &[usize; SLOTS], lengths: &[usize; SLOTS]) -> bool
     requires { ⌜ Accepted (now s) l × Readable l (now starts) (now lengths) ⌝ }
     ensures { λ r. ⌜ ((attributes : List Attribute) → Gathered (now (s .entry)) l attributes (now (starts .entry)) (now (lengths .entry)) → r ≡ relMain attributes) ⌝ }
 {
-    among(s, l, starts, lengths, 2, b"main")
+    among(s, l, starts, lengths, attributes::REL, b"main")
 }
 
-pub fn role_outside(s: &[u8], l: Layout, starts: &[usize; 13], lengths: &[usize; 13]) -> bool
+pub fn role_outside(s: &[u8], l: Layout, starts: &[usize; SLOTS], lengths: &[usize; SLOTS]) -> bool
     requires { ⌜ Accepted (now s) l × Readable l (now starts) (now lengths) ⌝ }
     ensures { λ r. ⌜ ((attributes : List Attribute) → Gathered (now (s .entry)) l attributes (now (starts .entry)) (now (lengths .entry)) → r ≡ roleOutside attributes) ⌝ }
 {
@@ -96,7 +102,7 @@ pub fn role_outside(s: &[u8], l: Layout, starts: &[usize; 13], lengths: &[usize;
         l,
         starts,
         lengths,
-        9,
+        attributes::ROLE,
         b"alert banner checkbox comment complementary contentinfo dialog img menu menubar menuitem navigation presentation radio search searchbox separator tab toolbar tooltip",
     )
 }

@@ -5,6 +5,7 @@ use lib.Dec.{ltb}
 use Rattle.common.specs.Bytes.{Bytes}
 use Rattle.common.specs.Answer.{Answer, refused}
 use Rattle.patterns.specs.Match.{matchesOf}
+use Rattle.patterns.specs.Patterns.{lastPattern}
 use Rattle.patterns.specs.declared.Matched.{Matched}
 use Rattle.patterns.specs.declared.Matched.the-variants.{Yes, No, NoPattern}
 
@@ -20,8 +21,8 @@ numbers (NoPattern p) = refused 36 p
 
 -- in document 01's numbers
 abbrev pub answerOf : ℕ → Bytes → Answer
-answerOf p s = cond (ltb 20 p) (refused 36 p) (said (matchesOf p s))
+answerOf p s = cond (ltb lastPattern p) (refused 36 p) (said (matchesOf p s))
 
 -- the cases themselves
 abbrev pub matched : ℕ → Bytes → Matched
-matched p s = cond (ltb 20 p) (NoPattern p) (cond (matchesOf p s) Yes No)
+matched p s = cond (ltb lastPattern p) (NoPattern p) (cond (matchesOf p s) Yes No)

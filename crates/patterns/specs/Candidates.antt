@@ -9,7 +9,7 @@ use Rattle.common.specs.Bytes.{Bytes}
 use Rattle.text.specs.Text.{isSpace}
 use Rattle.regex.specs.Regex.{Class, Regex, between, lower, exactly, letter, anyBlank, anyDash, anySeparator, anyHexDigit, nothing, one, many, _then_, _or_, optional, atStart, atEnd}
 use Rattle.regex.specs.Match.{always, fit}
-use Rattle.patterns.specs.Patterns.{patterns, pattern}
+use Rattle.patterns.specs.Patterns.{patternCount, patterns, pattern}
 use Rattle.patterns.specs.Match.{matchesOf}
 
 -- a set of patterns is a number: bit p says whether p is in it
@@ -18,11 +18,11 @@ bit n p = eqb (n / 2 ^ p % 2) 1
 
 -- each pattern that matches s is in the set
 abbrev pub Candidates : ℕ → Bytes → Type 0
-Candidates set s = (p : ℕ) → p < 21 → T (matchesOf p s) → T (bit set p)
+Candidates set s = (p : ℕ) → p < patternCount → T (matchesOf p s) → T (bit set p)
 
 -- each pattern that fits from here on is in the set
 abbrev pub CanBegin : Bool → Bytes → ℕ → Type 0
-CanBegin b t set = (p : ℕ) → p < 21 → T (fit (pattern p) always b t) → T (bit set p)
+CanBegin b t set = (p : ℕ) → p < patternCount → T (fit (pattern p) always b t) → T (bit set p)
 
 -- ---- codes of bytes
 -- a byte by one of 32 codes: blanks 0, letters 1 to 26, `-` 27, `_` 28, digits 29, `:` and `;` 31, all others 30

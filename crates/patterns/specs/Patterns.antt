@@ -226,6 +226,13 @@ patterns =
     articleCls ∷ navCls ∷ recommendedCls ∷ landmarkId ∷ headerCls ∷ footerCls ∷ postMetaCls ∷ sidebarCls ∷ searchCls ∷ skipLinkCls ∷ displayCls
     ∷ displayCss ∷ modalCls ∷ galleryCls ∷ signinCls ∷ adsCls ∷ socialCls ∷ commentsCls ∷ logoCls ∷ printCls ∷ otherJunkCls ∷ []
 
+-- their numbers are 0 to `lastPattern`
+abbrev pub lastPattern : ℕ
+lastPattern = 20
+
+abbrev pub patternCount : ℕ
+patternCount = 21
+
 -- the regex of a number
 abbrev pub pattern : ℕ → Regex
 pattern p = getD patterns p nothing

@@ -1,4 +1,6 @@
 // The regexes of filters.rs: is one of them found in a text?
+use crate::masks::Masks;
+use crate::table::Steps;
 ghost use mathlib.Core.Bool.{true};
 ghost use mathlib.Core.Path.{_≡_};
 ghost use Prim.Native.Nat.{_+_, _*_, _≤_, _<_};
@@ -7,7 +9,7 @@ ghost use Rattle.common.specs.Bytes.{lengthLimit};
 ghost use Rattle.regex.specs.Joined.{joined};
 ghost use Rattle.regex.specs.Steps.{startOf};
 ghost use Rattle.regex.specs.Meaning.{holds, still};
-ghost use Rattle.patterns.specs.Patterns.{patterns};
+ghost use Rattle.patterns.specs.Patterns.{patternCount, patterns};
 ghost use Rattle.patterns.specs.Match.{matchesOf};
 ghost use Rattle.patterns.specs.Steps.{allSteps, stepCodes};
 ghost use Rattle.patterns.specs.Candidates.{bit, CanBegin, Candidates, codeOf, groupAt, maskOf, maskRow, MaskTable};
@@ -17,6 +19,52 @@ pub mod masks;
 pub mod table;
 pub mod theorems;
 
+// The numbers of the patterns: the order of filters.rs.
+pub const ARTICLE_CLS: usize = 0;
+
+pub const NAV_CLS: usize = 1;
+
+pub const RECOMMENDED_CLS: usize = 2;
+
+pub const LANDMARK_ID: usize = 3;
+
+pub const HEADER_CLS: usize = 4;
+
+pub const FOOTER_CLS: usize = 5;
+
+pub const POST_META_CLS: usize = 6;
+
+pub const SIDEBAR_CLS: usize = 7;
+
+pub const SEARCH_CLS: usize = 8;
+
+pub const SKIP_LINK_CLS: usize = 9;
+
+pub const DISPLAY_CLS: usize = 10;
+
+pub const DISPLAY_CSS: usize = 11;
+
+pub const MODAL_CLS: usize = 12;
+
+pub const GALLERY_CLS: usize = 13;
+
+pub const SIGNIN_CLS: usize = 14;
+
+pub const ADS_CLS: usize = 15;
+
+pub const SOCIAL_CLS: usize = 16;
+
+pub const COMMENTS_CLS: usize = 17;
+
+pub const LOGO_CLS: usize = 18;
+
+pub const PRINT_CLS: usize = 19;
+
+pub const OTHER_JUNK_CLS: usize = 20;
+
+// The greatest of them.
+const LAST: usize = OTHER_JUNK_CLS;
+
 pub enum Matched {
     Yes,
     No,
@@ -24,6 +72,7 @@ pub enum Matched {
     NoPattern(usize),
 }
 
+// Where the steps of each pattern begin, and where the last ends.
 const STARTS: [u16; 22] = [
     0,
     83,
@@ -64,7 +113,7 @@ fn index(x: u8) -> usize
 }
 
 // The code of a byte.
-fn code_of(masks: &[u32; 4352], x: u8) -> usize
+fn code_of(masks: &Masks, x: u8) -> usize
     requires { ⌜ MaskTable (now masks) ⌝ }
     ensures { λ r. ⌜ r ≡ codeOf x ⌝ }
 {
@@ -72,7 +121,7 @@ fn code_of(masks: &[u32; 4352], x: u8) -> usize
 }
 
 // The patterns that can begin where two bytes stand, by one of the four groups of rows.
-fn pair(masks: &[u32; 4352], group: usize, x: u8, y: u8) -> u32
+fn pair(masks: &Masks, group: usize, x: u8, y: u8) -> u32
     requires { ⌜ (group < 4) × MaskTable (now masks) ⌝ }
     ensures { λ r. ⌜ r ≡ maskOf (maskRow (group * 32 + codeOf x)) (codeOf y) ⌝ }
 {
@@ -91,7 +140,7 @@ fn group_at(at: usize) -> usize
 }
 
 // The patterns that can begin at a place, by the four bytes there.
-fn beginning(masks: &[u32; 4352], class: &[u8], id: &[u8], n: usize, at: usize) -> u32
+fn beginning(masks: &Masks, class: &[u8], id: &[u8], n: usize, at: usize) -> u32
     requires { ⌜ (at < n) × (n ≡ length (joined (now class) (now id))) × MaskTable (now masks) ⌝ }
     ensures { λ r. ⌜ CanBegin (still true at) (drop at (joined (now (class .entry)) (now (id .entry)))) r ⌝ }
 {
@@ -122,14 +171,14 @@ fn beginning(masks: &[u32; 4352], class: &[u8], id: &[u8], n: usize, at: usize) 
 
 // Whether a pattern is in a set.
 fn has(set: u32, pattern: usize) -> bool
-    requires { ⌜ pattern < 21 ⌝ }
+    requires { ⌜ pattern < patternCount ⌝ }
     ensures { λ r. ⌜ r ≡ bit set pattern ⌝ }
 {
     (set >> pattern) % 2 == 1
 }
 
 // A set of patterns with each that class and id as one text match.
-pub fn candidates(masks: &[u32; 4352], class: &[u8], id: &[u8]) -> u32
+pub fn candidates(masks: &Masks, class: &[u8], id: &[u8]) -> u32
     requires { ⌜ (length (now class) + length (now id) < lengthLimit) × MaskTable (now masks) ⌝ }
     ensures { λ r. ⌜ Candidates r (joined (now (class .entry)) (now (id .entry))) ⌝ }
 {
@@ -145,8 +194,8 @@ pub fn candidates(masks: &[u32; 4352], class: &[u8], id: &[u8]) -> u32
 
 // Whether the pattern fits from a place on.
 fn begins(
-    steps: &[u16; 2059],
-    masks: &[u32; 4352],
+    steps: &Steps,
+    masks: &Masks,
     pattern: usize,
     first: usize,
     class: &[u8],
@@ -154,7 +203,7 @@ fn begins(
     n: usize,
     at: usize,
 ) -> bool
-    requires { ⌜ (pattern < 21) × (first ≡ startOf patterns pattern) × (at < n) × (n ≡ length (joined (now class) (now id))) × (now steps ≡ stepCodes) × MaskTable (now masks) ⌝ }
+    requires { ⌜ (pattern < patternCount) × (first ≡ startOf patterns pattern) × (at < n) × (n ≡ length (joined (now class) (now id))) × (now steps ≡ stepCodes) × MaskTable (now masks) ⌝ }
     ensures { λ r. ⌜ r ≡ holds allSteps first (joined (now (class .entry)) (now (id .entry))) at ⌝ }
 {
     if has(beginning(masks, class, id, n, at), pattern) {
@@ -164,15 +213,8 @@ fn begins(
 }
 
 // The places one after the other.
-fn search(
-    steps: &[u16; 2059],
-    masks: &[u32; 4352],
-    pattern: usize,
-    class: &[u8],
-    id: &[u8],
-    n: usize,
-) -> bool
-    requires { ⌜ (pattern < 21) × (n ≡ length (joined (now class) (now id))) × (now steps ≡ stepCodes) × MaskTable (now masks) ⌝ }
+fn search(steps: &Steps, masks: &Masks, pattern: usize, class: &[u8], id: &[u8], n: usize) -> bool
+    requires { ⌜ (pattern < patternCount) × (n ≡ length (joined (now class) (now id))) × (now steps ≡ stepCodes) × MaskTable (now masks) ⌝ }
     ensures { λ r. ⌜ r ≡ matchesOf pattern (joined (now (class .entry)) (now (id .entry))) ⌝ }
 {
     let first = start(pattern) as usize;
@@ -187,14 +229,8 @@ fn search(
 }
 
 // Whether class and id as one text match the pattern. A single text goes in as the id, with an empty class.
-pub fn matches_joined(
-    steps: &[u16; 2059],
-    masks: &[u32; 4352],
-    pattern: usize,
-    class: &[u8],
-    id: &[u8],
-) -> bool
-    requires { ⌜ (pattern < 21) × (length (now class) + length (now id) < lengthLimit) × (now steps ≡ stepCodes) × MaskTable (now masks) ⌝ }
+pub fn matches_joined(steps: &Steps, masks: &Masks, pattern: usize, class: &[u8], id: &[u8]) -> bool
+    requires { ⌜ (pattern < patternCount) × (length (now class) + length (now id) < lengthLimit) × (now steps ≡ stepCodes) × MaskTable (now masks) ⌝ }
     ensures { λ r. ⌜ r ≡ matchesOf pattern (joined (now (class .entry)) (now (id .entry))) ⌝ }
 {
     search(steps, masks, pattern, class, id, regex::size(class, id))
@@ -202,14 +238,14 @@ pub fn matches_joined(
 
 // The same, with the candidates at hand.
 pub fn matches_among(
-    steps: &[u16; 2059],
-    masks: &[u32; 4352],
+    steps: &Steps,
+    masks: &Masks,
     set: u32,
     pattern: usize,
     class: &[u8],
     id: &[u8],
 ) -> bool
-    requires { ⌜ (pattern < 21) × (length (now class) + length (now id) < lengthLimit) × (now steps ≡ stepCodes) × MaskTable (now masks) × Candidates set (joined (now class) (now id)) ⌝ }
+    requires { ⌜ (pattern < patternCount) × (length (now class) + length (now id) < lengthLimit) × (now steps ≡ stepCodes) × MaskTable (now masks) × Candidates set (joined (now class) (now id)) ⌝ }
     ensures { λ r. ⌜ r ≡ matchesOf pattern (joined (now (class .entry)) (now (id .entry))) ⌝ }
 {
     if has(set, pattern) {
@@ -222,7 +258,7 @@ pub fn matches_among(
 pub fn matches(pattern: usize, s: &[u8]) -> Matched
     ensures { λ r. ⌜ (r ≡ matched pattern (now (s .entry))) × (numbers r ≡ answerOf pattern (now (s .entry))) ⌝ }
 {
-    if 20 < pattern {
+    if LAST < pattern {
         return Matched::NoPattern(pattern);
     }
     if search(&table::steps(), &masks::masks(), pattern, b"", s, s.len()) {

@@ -1,7 +1,9 @@
 // The codes of the 256 bytes, and the sets of patterns that can begin at two bytes of some codes.
 ghost use Rattle.patterns.specs.Candidates.{MaskTable};
 
-const MASKS: [u32; 4352] = [
+pub type Masks = [u32; 4352];
+
+const MASKS: Masks = [
     30,
     30,
     30,
@@ -4357,7 +4359,7 @@ const MASKS: [u32; 4352] = [
 ];
 
 // A caller makes the table once and lends it.
-pub fn masks() -> [u32; 4352]
+pub fn masks() -> Masks
     ensures { λ r. ⌜ MaskTable r ⌝ }
 {
     MASKS

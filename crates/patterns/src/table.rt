@@ -2,7 +2,9 @@
 ghost use mathlib.Core.Path.{_≡_};
 ghost use Rattle.patterns.specs.Steps.{stepCodes};
 
-const STEPS: [u16; 2059] = [
+pub type Steps = [u16; 2059];
+
+const STEPS: Steps = [
     18,
     4,
     11,
@@ -2065,7 +2067,7 @@ const STEPS: [u16; 2059] = [
 ];
 
 // A caller makes the table once and lends it.
-pub fn steps() -> [u16; 2059]
+pub fn steps() -> Steps
     ensures { λ r. ⌜ r ≡ stepCodes ⌝ }
 {
     STEPS
