@@ -24,7 +24,7 @@ use Rattle.tree.specs.Attributes.{nameAt, findOf, valueIn, attributesFrom}
 use Rattle.tree.specs.Node.{attribute}
 use Rattle.tree.proofs.AttributeLines.{find-is}
 use Rattle.tree.specs.declared.attributes.AttributeAt.the-variants.{Absent, At}
-use Rattle.filters.specs.Gathered.{attributeNames, attributeNumber, slot, slotValue, SlotInside, Slots, Gathered, Readable}
+use Rattle.filters.specs.Gathered.{attributeNames, nameCount, slotCount, attributeNumber, slot, slotValue, SlotInside, Slots, Gathered, Readable}
 
 -- ---- the number of a name
 
@@ -48,7 +48,7 @@ number-if n w t e s h q =
     (λ p. rw p (number-at s w p e))
     (λ p. rw p (number-none (eqb n) (w ∷ []) t s (eq-eqb n (length s) (sym h)) (one-word s w ∙ p)))
 
-pub number-small : (s : Bytes) {k : ℕ} → k ≡ attributeNumber s → k < 13
+pub number-small : (s : Bytes) {k : ℕ} → k ≡ attributeNumber s → k < slotCount
 unfolding attributeNumber attributeNames words firstWord otherWords codes
 number-small s e = rw e (number-below 1 s attributeNames (omega arith))
 
@@ -56,9 +56,9 @@ number-is : (s : Bytes) (k : ℕ) → attributeNumber s ≡ suc k → s ≡ getD
 unfolding attributeNumber
 number-is s k e = number-word 1 s attributeNames k (omega arith) (e ∙ omega arith)
 
-distinct : (k : ℕ) → k < 12 → attributeNumber (getD attributeNames k []) ≡ suc k
+distinct : (k : ℕ) → k < nameCount → attributeNumber (getD attributeNames k []) ≡ suc k
 unfolding attributeNumber attributeNames words firstWord otherWords codes numberFrom same
-distinct k h = eqb-true _ _ (every-at (λ n. eqb (attributeNumber (getD attributeNames n [])) (suc n)) 0 12 refl k (omega arith) (omega arith))
+distinct k h = eqb-true _ _ (every-at (λ n. eqb (attributeNumber (getD attributeNames n [])) (suc n)) 0 nameCount refl k (omega arith) (omega arith))
 
 -- ---- the slots
 
@@ -68,21 +68,21 @@ zero-at (suc n) zero = refl
 zero-at (suc n) (suc k) = zero-at n k
 
 module _ (s : Bytes) (l : Layout) where
-  slots-none : (j : ℕ) {starts lengths : List ℕ} → starts ≡ replicate 13 0 → lengths ≡ replicate 13 0 → Slots s l j 0 starts lengths
+  slots-none : (j : ℕ) {starts lengths : List ℕ} → starts ≡ replicate slotCount 0 → lengths ≡ replicate slotCount 0 → Slots s l j 0 starts lengths
   unfolding findOf
   slots-none j p q = record {
     starts-size = ap length p;
     lengths-size = ap length q;
-    found = λ k h. ap₂ (λ (a b : ℕ). slot a b) (ap (λ (t : List ℕ). getD t (suc k) 0) p ∙ zero-at 13 (suc k)) (ap (λ (t : List ℕ). getD t (suc k) 0) q ∙ zero-at 13 (suc k));
-    inside = λ k. omega (arith, ap (λ (t : List ℕ). getD t k 0) p ∙ zero-at 13 k, ap (λ (t : List ℕ). getD t k 0) q ∙ zero-at 13 k);
+    found = λ k h. ap₂ (λ (a b : ℕ). slot a b) (ap (λ (t : List ℕ). getD t (suc k) 0) p ∙ zero-at slotCount (suc k)) (ap (λ (t : List ℕ). getD t (suc k) 0) q ∙ zero-at slotCount (suc k));
+    inside = λ k. omega (arith, ap (λ (t : List ℕ). getD t k 0) p ∙ zero-at slotCount k, ap (λ (t : List ℕ). getD t k 0) q ∙ zero-at slotCount k);
   }
 
-  pub slots-start : (from count : ℕ) {starts lengths : List ℕ} → starts ≡ replicate 13 0 → lengths ≡ replicate 13 0 → Slots s l (from + count) (count - count) starts lengths
+  pub slots-start : (from count : ℕ) {starts lengths : List ℕ} → starts ≡ replicate slotCount 0 → lengths ≡ replicate slotCount 0 → Slots s l (from + count) (count - count) starts lengths
   slots-start from count p q = let z : count - count ≡ 0 = omega arith in rw z (slots-none (from + count) p q)
 
   module _ {j n : ℕ} {starts lengths : List ℕ} (w : Slots s l (suc j) n starts lengths) {a : Attribute} (a-is : a ≡ attributeAt s l j) (fits : a .«value_at» + a .«value_len» ≤ l .pool)
       {k : ℕ} (k-is : k ≡ attributeNumber (nameAt s l j)) where
-    small : k < 13
+    small : k < slotCount
     small = number-small (nameAt s l j) k-is
 
     stored-starts : (m : ℕ) → m ≡ k → getD (set starts k (a .«value_at» + 1)) m 0 ≡ suc (a .«value_at»)
@@ -97,7 +97,7 @@ module _ (s : Bytes) (l : Layout) where
         let named : same (nameAt s l j) (getD attributeNames m []) ≡ true = same-of _ _ (number-is (nameAt s l j) m (sym k-is ∙ sym e)) in
         rw (named, findOf, a-is)
 
-    found-next : (m : ℕ) → m < 12 → (suc m ≡ k → ⊥) → findOf s l (getD attributeNames m []) (suc j) n ≡ findOf s l (getD attributeNames m []) j (suc n)
+    found-next : (m : ℕ) → m < nameCount → (suc m ≡ k → ⊥) → findOf s l (getD attributeNames m []) (suc j) n ≡ findOf s l (getD attributeNames m []) j (suc n)
     unfolding findOf
     found-next m h e =
         let other : same (nameAt s l j) (getD attributeNames m []) ≡ false = same-not _ _ (λ q. e (sym (distinct m h) ∙ ap attributeNumber (sym q) ∙ sym k-is)) in
@@ -134,7 +134,7 @@ module _ (s : Bytes) (l : Layout) where
   slots-readable w = record { starts-size = w .starts-size; lengths-size = w .lengths-size; inside = w .inside }
 
   module _ {from count : ℕ} {starts lengths : List ℕ} (w : Slots s l from count starts lengths) where
-    holds : (k : ℕ) → k < 12 → valueIn s l (slot (getD starts (suc k) 0) (getD lengths (suc k) 0)) ≡ attribute (attributesFrom s l from count) (getD attributeNames k [])
+    holds : (k : ℕ) → k < nameCount → valueIn s l (slot (getD starts (suc k) 0) (getD lengths (suc k) 0)) ≡ attribute (attributesFrom s l from count) (getD attributeNames k [])
     holds k h = ap (valueIn s l) (w .found k h) ∙ find-is s l (getD attributeNames k []) from count
 
     pub slots-gathered : Gathered s l (attributesFrom s l from count) starts lengths

@@ -12,6 +12,7 @@ use borrow.Author.Tests.{ltb-true}
 use Rattle.common.specs.Bytes.{Bytes}
 use Rattle.common.proofs.Choice.{and-parts}
 use Rattle.patterns.specs.Match.{matchesOf}
+use Rattle.patterns.specs.Patterns.{patternCount}
 use Rattle.filters.specs.Classes.{anyMatch, ArePatterns}
 use Rattle.common.proofs.TestLaws.{or-yes, or-no}
 
@@ -43,12 +44,12 @@ module _ (numbers : List ℕ) (s : Bytes) where
   unfolding anyMatch
   asking-end k h w = ap (λ (l : List ℕ). anyMatch l s) (sym (drop-of-length-le numbers {i = k} h)) ∙ w
 
--- numbers below 21, by one test that is computed
+-- numbers of patterns, by one test that is computed
 abbrev areBelow : List ℕ → Bool
 areBelow [] = true
-areBelow (p ∷ ps) = ltb p 21 && areBelow ps
+areBelow (p ∷ ps) = ltb p patternCount && areBelow ps
 
 pub are-patterns : (numbers : List ℕ) → areBelow numbers ≡ true → ArePatterns numbers
 are-patterns [] t k = lit< tt
-are-patterns (p ∷ ps) t zero = ltb-true p 21 (and-parts (ltb p 21) (areBelow ps) t .0)
-are-patterns (p ∷ ps) t (suc k) = are-patterns ps (and-parts (ltb p 21) (areBelow ps) t .1) k
+are-patterns (p ∷ ps) t zero = ltb-true p patternCount (and-parts (ltb p patternCount) (areBelow ps) t .0)
+are-patterns (p ∷ ps) t (suc k) = are-patterns ps (and-parts (ltb p patternCount) (areBelow ps) t .1) k

@@ -11,7 +11,7 @@ use Rattle.tags.specs.Tags.{tagOf}
 use Rattle.tree.specs.Node.{tag}
 use Rattle.tree.specs.Page.{nodeAt}
 
--- some name has this number: 43 and what is above it have none
+-- some name has this number: what is above `input` has none
 pub record IsTag (number : ℕ) : Type 0 where
   pub name : Bytes
   pub number-is : number ≡ tagOf name

@@ -9,6 +9,7 @@ use Rattle.common.specs.Bytes.{Bytes}
 use Rattle.regex.proofs.CodeLaws.{chosen, other}
 use Rattle.patterns.specs.Match.{matchesOf}
 use Rattle.patterns.specs.Answers.{said, numbers, answerOf, matched}
+use Rattle.patterns.specs.Patterns.{lastPattern}
 use Rattle.patterns.specs.declared.Matched.{Matched}
 use Rattle.patterns.specs.declared.Matched.the-variants.{Yes, No, NoPattern}
 
@@ -17,21 +18,21 @@ abbrev pub Answers : Matched → ℕ → Bytes → Type 0
 Answers r p s = (r ≡ matched p s) × (numbers r ≡ answerOf p s)
 
 module _ (p : ℕ) (s : Bytes) where
-  pub answer-none : 20 < p → Answers (NoPattern p) p s
+  pub answer-none : lastPattern < p → Answers (NoPattern p) p s
   answer-none h =
-      let e = lt-ltb 20 p h in
-      (chosen (ltb 20 p) (NoPattern p) (cond (matchesOf p s) Yes No) e, chosen (ltb 20 p) (refused 36 p) (said (matchesOf p s)) e)
+      let e = lt-ltb lastPattern p h in
+      (chosen (ltb lastPattern p) (NoPattern p) (cond (matchesOf p s) Yes No) e, chosen (ltb lastPattern p) (refused 36 p) (said (matchesOf p s)) e)
 
-  pub answer-yes : p ≤ 20 → true ≡ matchesOf p s → Answers Yes p s
+  pub answer-yes : p ≤ lastPattern → true ≡ matchesOf p s → Answers Yes p s
   answer-yes h t =
-      let e = le-ltb 20 p h in (
-        chosen (matchesOf p s) Yes No (sym t) ∙ other (ltb 20 p) (NoPattern p) (cond (matchesOf p s) Yes No) e,
-        ap said t ∙ other (ltb 20 p) (refused 36 p) (said (matchesOf p s)) e,
+      let e = le-ltb lastPattern p h in (
+        chosen (matchesOf p s) Yes No (sym t) ∙ other (ltb lastPattern p) (NoPattern p) (cond (matchesOf p s) Yes No) e,
+        ap said t ∙ other (ltb lastPattern p) (refused 36 p) (said (matchesOf p s)) e,
       )
 
-  pub answer-no : p ≤ 20 → false ≡ matchesOf p s → Answers No p s
+  pub answer-no : p ≤ lastPattern → false ≡ matchesOf p s → Answers No p s
   answer-no h t =
-      let e = le-ltb 20 p h in (
-        other (matchesOf p s) Yes No (sym t) ∙ other (ltb 20 p) (NoPattern p) (cond (matchesOf p s) Yes No) e,
-        ap said t ∙ other (ltb 20 p) (refused 36 p) (said (matchesOf p s)) e,
+      let e = le-ltb lastPattern p h in (
+        other (matchesOf p s) Yes No (sym t) ∙ other (ltb lastPattern p) (NoPattern p) (cond (matchesOf p s) Yes No) e,
+        ap said t ∙ other (ltb lastPattern p) (refused 36 p) (said (matchesOf p s)) e,
       )

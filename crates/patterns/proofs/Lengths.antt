@@ -13,9 +13,9 @@ use Rattle.common.proofs.Choice.{by-cond}
 use Rattle.regex.specs.Regex.{Class, Regex, inClass, nothing, one, many, _then_, _or_, optional, atStart, atEnd, word, exact}
 use Rattle.regex.specs.Match.{Test, always, repeats, fit}
 use Rattle.regex.proofs.MatchLaws.{and-left, and-right, or-cases}
-use Rattle.patterns.specs.Patterns.{patterns, pattern}
+use Rattle.patterns.specs.Patterns.{patternCount, patterns, pattern}
 
-pub patterns-long : length patterns ≡ 21
+pub patterns-long : length patterns ≡ patternCount
 unfolding patterns
 patterns-long = refl
 
@@ -90,7 +90,7 @@ two-at (r ∷ rs) t zero h = leb→le 2 (minLength r) (and-left (leb 2 (minLengt
 two-at (r ∷ rs) t (suc p) h = two-at rs (and-right (leb 2 (minLength r)) (allTwo rs) t) p (omega arith)
 
 -- so none begins where fewer are left
-pub short-begins : (b : Bool) (t : Bytes) → length t < 2 → (p : ℕ) → p < 21 → T (fit (pattern p) always b t) → ⊥
+pub short-begins : (b : Bool) (t : Bytes) → length t < 2 → (p : ℕ) → p < patternCount → T (fit (pattern p) always b t) → ⊥
 short-begins b t h p l q =
     let m = two-at patterns all-two p (omega (arith, patterns-long)) in
     let n = fit-least (pattern p) always 0 (λ c u v. zero-le) b t q in

@@ -15,7 +15,7 @@ use Rattle.regex.specs.Match.{Test, always, fit, anywhere, finds}
 use Rattle.regex.specs.Steps.{startOf}
 use Rattle.regex.specs.Meaning.{still, testAt, holds}
 use Rattle.regex.proofs.MatchLaws.{or-cases}
-use Rattle.patterns.specs.Patterns.{patterns, pattern}
+use Rattle.patterns.specs.Patterns.{patternCount, patterns, pattern}
 use Rattle.patterns.specs.Match.{matchesOf}
 use Rattle.patterns.specs.Steps.{allSteps}
 use Rattle.patterns.specs.Candidates.{bit, Candidates, CanBegin}
@@ -32,7 +32,7 @@ here-anywhere k b [] e = e
 here-anywhere k b (x ∷ t) e = ap (λ (q : Bool). q || anywhere k false t) e
 
 -- ---- one pattern
-module _ (p : ℕ) (h : p < 21) where
+module _ (p : ℕ) (h : p < patternCount) where
   -- found from a place on
   abbrev ahead-of : Bytes → ℕ → Bool
   ahead-of s at = testAt (anywhere (fit (pattern p) always)) s at
@@ -62,7 +62,7 @@ pub record Searching (p : ℕ) (s : Bytes) (at : ℕ) : Type 0 where
   pub within : at ≤ length s
   pub same : matchesOf p s ≡ testAt (anywhere (fit (pattern p) always)) s at
 
-module _ (p : ℕ) (h : p < 21) (s : Bytes) where
+module _ (p : ℕ) (h : p < patternCount) (s : Bytes) where
   pub search-start : Searching p s 0
   search-start = record { within = omega arith; same = ahead-start p h s }
 
@@ -83,7 +83,7 @@ module _ (p : ℕ) (h : p < 21) (s : Bytes) where
 -- ---- all patterns: those found so far are in the set
 pub record Collecting (s : Bytes) (set at : ℕ) : Type 0 where
   pub within : at ≤ length s
-  pub rest : (p : ℕ) → p < 21 → T (matchesOf p s) → T (bit set p) ⊎ T (testAt (anywhere (fit (pattern p) always)) s at)
+  pub rest : (p : ℕ) → p < patternCount → T (matchesOf p s) → T (bit set p) ⊎ T (testAt (anywhere (fit (pattern p) always)) s at)
 
 module _ (s : Bytes) where
   pub collect-start : Collecting s 0 0
@@ -92,7 +92,7 @@ module _ (s : Bytes) where
   pub collect-more : (set at more : ℕ) → Collecting s set at → at < length s → CanBegin (still true at) (drop at s) more → Collecting s (bitOr set more) (at + 1)
   collect-more set at more w l f = record { within = omega arith; rest = λ p h t. go p h (w .rest p h t) }
     where
-      go : (p : ℕ) → p < 21 → T (bit set p) ⊎ T (testAt (anywhere (fit (pattern p) always)) s at) → T (bit (bitOr set more) p) ⊎ T (testAt (anywhere (fit (pattern p) always)) s (at + 1))
+      go : (p : ℕ) → p < patternCount → T (bit set p) ⊎ T (testAt (anywhere (fit (pattern p) always)) s at) → T (bit (bitOr set more) p) ⊎ T (testAt (anywhere (fit (pattern p) always)) s (at + 1))
       go p h (inl q) = inl (bit-or-left set more p q)
       go p h (inr q) =
           elim (or-cases (testAt (fit (pattern p) always) s at) (testAt (anywhere (fit (pattern p) always)) s (at + 1)) (subst T (ahead-here p h s at l) q)) [
@@ -104,8 +104,8 @@ module _ (s : Bytes) where
   collect-end set at w l p h t = elim (w .rest p h t) [ inl q ↦ q | inr q ↦ absurd (subst T (ahead-end p h s at l) q) ]
 
 -- ---- with a set at hand
-pub not-candidate : (set p : ℕ) (s : Bytes) → p < 21 → Candidates set s → bit set p ≡ false → false ≡ matchesOf p s
+pub not-candidate : (set p : ℕ) (s : Bytes) → p < patternCount → Candidates set s → bit set p ≡ false → false ≡ matchesOf p s
 not-candidate set p s h f e = sym (no-T (matchesOf p s) (λ t. subst T e (f p h t)))
 
-pub cannot-begin : (set p : ℕ) (s : Bytes) (at : ℕ) → p < 21 → CanBegin (still true at) (drop at s) set → bit set p ≡ false → false ≡ holds allSteps (startOf patterns p) s at
+pub cannot-begin : (set p : ℕ) (s : Bytes) (at : ℕ) → p < patternCount → CanBegin (still true at) (drop at s) set → bit set p ≡ false → false ≡ holds allSteps (startOf patterns p) s at
 cannot-begin set p s at h f e = sym (start-holds p h s at ∙ no-T (testAt (fit (pattern p) always) s at) (λ t. subst T e (f p h t)))

@@ -10,7 +10,7 @@ use Rattle.regex.specs.Match.{Test, always, fit}
 use Rattle.regex.specs.Steps.{Step, startOf, encode, stayInside}
 use Rattle.regex.specs.Meaning.{testAt, holds, stepsOf, StepTable}
 use Rattle.regex.proofs.StepLaws.{start-means, start-inside, decoded}
-use Rattle.patterns.specs.Patterns.{patterns, pattern}
+use Rattle.patterns.specs.Patterns.{patternCount, patterns, pattern}
 use Rattle.patterns.specs.Steps.{allSteps, stepCodes}
 use Rattle.patterns.proofs.Lengths.{patterns-long}
 use Rattle.patterns.proofs.StepNumbers.{stepNumbers, steps-are, stay-inside}
@@ -37,7 +37,7 @@ module _ {codes : List ℕ} (e : codes ≡ stepCodes) where
   table-holds i s at = ap (λ (p : List Step). holds p i s at) (ap stepsOf e ∙ codes-decoded)
 
 -- ---- where the patterns begin
-module _ (p : ℕ) (h : p < 21) where
+module _ (p : ℕ) (h : p < patternCount) where
   pub start-lt : startOf patterns p < 2059
   unfolding stepCodes allSteps
   start-lt = omega (arith, start-inside patterns p (omega (arith, patterns-long)), length-map allSteps encode, codes-long)

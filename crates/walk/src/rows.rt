@@ -26,7 +26,7 @@ fn tag_in(s: &[u8], l: Layout, start: usize, r: Row) -> u8
         let to = from + r.name_len;
         return tags::tag_of(&s[from..to]);
     }
-    0
+    tags::OTHER
 }
 
 // Whether a row is a comment or marked.
