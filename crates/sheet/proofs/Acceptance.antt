@@ -17,7 +17,7 @@ use Rattle.common.proofs.Equality.{same-true}
 use Rattle.utf8.specs.Valid.{valid}
 use Rattle.sheet.specs.Accepted.{KindOf, Text, Later, Accepted}
 use Rattle.sheet.specs.Column.{parentOf}
-use Rattle.sheet.specs.Layout.{headerLength, sizeOf, layoutOf, rowAt, attributeAt, range, depths}
+use Rattle.sheet.specs.Layout.{headerLength, mostDepth, sizeOf, layoutOf, rowAt, attributeAt, range, depths}
 use Rattle.sheet.specs.Lines.{lineRight, quadFrom}
 use Rattle.sheet.specs.Notes.{Sized}
 use Rattle.sheet.specs.Verdict.{stage, countsRight, kindRight, inside, bodyRight, isElement, textRight, nodes, attributes, nodeFormat, attributeFormat, nodeKind, nodeTree, nodeRange, attributeRange, nodeText, attributeText, countsFrom, judged, verdictOf, headerOf, isSheet}
@@ -72,7 +72,7 @@ module _ (s : Bytes) (l : Layout) where
       let n = and-parts there named (q .1) in
       record { depth = eqb-true (r .depth) 0 (q .0); element = eqb-true (r .kind) 1 (p .0); name = same-true _ _ (n .1) }
 
-  pub depth-of : (i : ℕ) → nodeTree s l i ≡ true → rowAt s l i .depth ≤ 500
+  pub depth-of : (i : ℕ) → nodeTree s l i ≡ true → rowAt s l i .depth ≤ mostDepth
   depth-of zero e = omega (arith, body-of e .depth)
   depth-of (suc i) e = later s l i e .most-depth
 

@@ -13,7 +13,7 @@ use Rattle.common.specs.Bytes.{Bytes}
 use Rattle.common.proofs.Choice.{by-test, absurd-test, and-parts, and-both}
 use Rattle.utf8.specs.Valid.{valid}
 use Rattle.sheet.specs.Accepted.{Accepted}
-use Rattle.sheet.specs.Layout.{headerLength, nodeLength, nodeStart, rowAt, range}
+use Rattle.sheet.specs.Layout.{mostDepth, headerLength, nodeLength, nodeStart, rowAt, range}
 use Rattle.sheet.specs.Lines.{lineRight, rowFrom, nodeLineOf}
 use Rattle.sheet.specs.Notes.{Sized, foundOf, isNothing, isNone, treeRight, rowRight, rightLine, rowIn, attributesRead, attributesRight, restRight}
 use Rattle.sheet.specs.Verdict.{inside, textRight, nodes, attributes, nodeFormat, attributeFormat, nodeKind, nodeTree, nodeRange, attributeRange, nodeText, attributeText, countsFrom, judged, isSheet}
@@ -129,7 +129,7 @@ module _ (s : Bytes) (l : Layout) (i : ℕ) (before : Row) (at first : ℕ) wher
 -- what the code uses of a row that is right
 pub record RowFacts (l : Layout) (r : Row) : Type 0 where
   pub listed : (r .kind ≡ 1) ⊎ ((r .kind ≡ 3) ⊎ (r .kind ≡ 8))
-  pub deep : r .depth ≤ 500
+  pub deep : r .depth ≤ mostDepth
   pub name : r .«name_at» + r .«name_len» ≤ l .pool
   pub value : r .«value_at» + r .«value_len» ≤ l .pool
 

@@ -9,7 +9,7 @@ use lib.ListN.{length}
 use borrow.Author.Tests.{leb-true, ltb-true, le-leb, lt-leb, lt-ltb, le-ltb, eq-eqb, ne-eqb}
 use Rattle.common.specs.Bytes.{Bytes}
 use Rattle.common.proofs.Choice.{and-parts}
-use Rattle.sheet.specs.Layout.{headerLength, sizeOf, layoutOf}
+use Rattle.sheet.specs.Layout.{headerLength, sizeOf, mostRows, mostAttributes, poolLimit, layoutOf}
 use Rattle.sheet.specs.Lines.{lineRight, quadFrom, shortLineOf}
 use Rattle.sheet.specs.Verdict.{countsRight, headerOf}
 use Rattle.sheet.specs.declared.line.Four
@@ -24,23 +24,23 @@ use Rattle.sheet.proofs.AttributePass.{short-numbers, short-bad}
 module _ (l : Layout) where
   pub record Counted : Type 0 where
     pub some-node : 1 ≤ l .nodes
-    pub nodes : l .nodes ≤ 20000
-    pub attributes : l .attributes ≤ 60000
-    pub pool : l .pool ≤ 4194304
+    pub nodes : l .nodes ≤ mostRows
+    pub attributes : l .attributes ≤ mostAttributes
+    pub pool : l .pool ≤ poolLimit (l .width)
     pub root : l .root < l .nodes
 
   pub counted : countsRight l ≡ true → Counted
   unfolding countsRight
   counted e =
-      let a = and-parts (leb 1 (l .nodes)) (leb (l .nodes) 20000 && (leb (l .attributes) 60000 && (leb (l .pool) 4194304 && ltb (l .root) (l .nodes)))) e in
-      let b = and-parts (leb (l .nodes) 20000) (leb (l .attributes) 60000 && (leb (l .pool) 4194304 && ltb (l .root) (l .nodes))) (a .1) in
-      let c = and-parts (leb (l .attributes) 60000) (leb (l .pool) 4194304 && ltb (l .root) (l .nodes)) (b .1) in
-      let d = and-parts (leb (l .pool) 4194304) (ltb (l .root) (l .nodes)) (c .1) in
+      let a = and-parts (leb 1 (l .nodes)) (leb (l .nodes) mostRows && (leb (l .attributes) mostAttributes && (leb (l .pool) (poolLimit (l .width)) && ltb (l .root) (l .nodes)))) e in
+      let b = and-parts (leb (l .nodes) mostRows) (leb (l .attributes) mostAttributes && (leb (l .pool) (poolLimit (l .width)) && ltb (l .root) (l .nodes))) (a .1) in
+      let c = and-parts (leb (l .attributes) mostAttributes) (leb (l .pool) (poolLimit (l .width)) && ltb (l .root) (l .nodes)) (b .1) in
+      let d = and-parts (leb (l .pool) (poolLimit (l .width))) (ltb (l .root) (l .nodes)) (c .1) in
       record {
         some-node = leb-true 1 (l .nodes) (a .0);
-        nodes = leb-true (l .nodes) 20000 (b .0);
-        attributes = leb-true (l .attributes) 60000 (c .0);
-        pool = leb-true (l .pool) 4194304 (d .0);
+        nodes = leb-true (l .nodes) mostRows (b .0);
+        attributes = leb-true (l .attributes) mostAttributes (c .0);
+        pool = leb-true (l .pool) (poolLimit (l .width)) (d .0);
         root = ltb-true (l .root) (l .nodes) (d .1);
       }
 
@@ -49,30 +49,30 @@ module _ (l : Layout) where
   no-node h = simp (lt-leb 1 (l .nodes) h)
 
   module _ (a : 1 ≤ l .nodes) where
-    pub many-nodes : 20000 < l .nodes → false ≡ countsRight l
+    pub many-nodes : mostRows < l .nodes → false ≡ countsRight l
     unfolding countsRight
-    many-nodes h = simp (le-leb 1 (l .nodes) a, lt-leb (l .nodes) 20000 h)
+    many-nodes h = simp (le-leb 1 (l .nodes) a, lt-leb (l .nodes) mostRows h)
 
-    module _ (b : l .nodes ≤ 20000) where
-      pub many-attributes : 60000 < l .attributes → false ≡ countsRight l
+    module _ (b : l .nodes ≤ mostRows) where
+      pub many-attributes : mostAttributes < l .attributes → false ≡ countsRight l
       unfolding countsRight
-      many-attributes h = simp (le-leb 1 (l .nodes) a, le-leb (l .nodes) 20000 b, lt-leb (l .attributes) 60000 h)
+      many-attributes h = simp (le-leb 1 (l .nodes) a, le-leb (l .nodes) mostRows b, lt-leb (l .attributes) mostAttributes h)
 
-      module _ (c : l .attributes ≤ 60000) where
-        pub large-pool : 4194304 < l .pool → false ≡ countsRight l
+      module _ (c : l .attributes ≤ mostAttributes) where
+        pub large-pool : poolLimit (l .width) < l .pool → false ≡ countsRight l
         unfolding countsRight
-        large-pool h = simp (le-leb 1 (l .nodes) a, le-leb (l .nodes) 20000 b, le-leb (l .attributes) 60000 c, lt-leb (l .pool) 4194304 h)
+        large-pool h = simp (le-leb 1 (l .nodes) a, le-leb (l .nodes) mostRows b, le-leb (l .attributes) mostAttributes c, lt-leb (l .pool) (poolLimit (l .width)) h)
 
-        pub root-test : l .pool ≤ 4194304 → ltb (l .root) (l .nodes) ≡ countsRight l
+        pub root-test : l .pool ≤ poolLimit (l .width) → ltb (l .root) (l .nodes) ≡ countsRight l
         unfolding countsRight
-        root-test h = simp (le-leb 1 (l .nodes) a, le-leb (l .nodes) 20000 b, le-leb (l .attributes) 60000 c, le-leb (l .pool) 4194304 h)
+        root-test h = simp (le-leb 1 (l .nodes) a, le-leb (l .nodes) mostRows b, le-leb (l .attributes) mostAttributes c, le-leb (l .pool) (poolLimit (l .width)) h)
 
 -- ---- products stay small
 
-pub lines-small : (w n : ℕ) → w ≤ 10 → n ≤ 60000 → (8 * w + 1) * n ≤ 4860000
+pub lines-small : (w n : ℕ) → w ≤ 10 → n ≤ mostAttributes → (8 * w + 1) * n ≤ 4860000
 lines-small w n h k = let m : 8 * w + 1 ≤ 81 = omega arith in mul-le-mul m k
 
-pub short-lines-small : (w n : ℕ) → w ≤ 10 → n ≤ 60000 → (4 * w + 1) * n ≤ 2460000
+pub short-lines-small : (w n : ℕ) → w ≤ 10 → n ≤ mostAttributes → (4 * w + 1) * n ≤ 2460000
 short-lines-small w n h k = let m : 4 * w + 1 ≤ 41 = omega arith in mul-le-mul m k
 
 -- ---- the verdict, up to the lines

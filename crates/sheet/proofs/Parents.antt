@@ -11,7 +11,7 @@ use borrow.Author.Tests.{leb-true, eqb-true, eqb-false, eq-eqb, ne-eqb}
 use Rattle.common.specs.Bytes.{Bytes}
 use Rattle.common.proofs.Choice.{by-test, and-parts, absurd-test}
 use Rattle.sheet.specs.Column.{lastAbove, parentOf}
-use Rattle.sheet.specs.Layout.{rowAt, depths}
+use Rattle.sheet.specs.Layout.{mostDepth, rowAt, depths}
 use Rattle.sheet.specs.Notes.{laterRight, treeRight}
 use Rattle.sheet.specs.Verdict.{bodyRight, isElement, nodeTree}
 use Rattle.sheet.specs.declared.line.Layout.{Layout}
@@ -22,7 +22,7 @@ module _ (s : Bytes) (l : Layout) where
   -- what the test of a later row says
   pub record Later (i : ℕ) : Type 0 where
     pub some-depth : 1 ≤ rowAt s l (suc i) .depth
-    pub most-depth : rowAt s l (suc i) .depth ≤ 500
+    pub most-depth : rowAt s l (suc i) .depth ≤ mostDepth
     pub no-jump : rowAt s l (suc i) .depth ≤ suc (rowAt s l i .depth)
     pub parent : isElement s l (parentOf (depths s l) (suc i)) ≡ true
 
@@ -30,12 +30,12 @@ module _ (s : Bytes) (l : Layout) where
   unfolding nodeTree
   later i e =
       let d = rowAt s l (suc i) .depth in
-      let p = and-parts (leb 1 d) (leb d 500 && (leb d (suc (rowAt s l i .depth)) && isElement s l (parentOf (depths s l) (suc i)))) e in
-      let q = and-parts (leb d 500) (leb d (suc (rowAt s l i .depth)) && isElement s l (parentOf (depths s l) (suc i))) (p .1) in
+      let p = and-parts (leb 1 d) (leb d mostDepth && (leb d (suc (rowAt s l i .depth)) && isElement s l (parentOf (depths s l) (suc i)))) e in
+      let q = and-parts (leb d mostDepth) (leb d (suc (rowAt s l i .depth)) && isElement s l (parentOf (depths s l) (suc i))) (p .1) in
       let r = and-parts (leb d (suc (rowAt s l i .depth))) (isElement s l (parentOf (depths s l) (suc i))) (q .1) in
       record {
         some-depth = leb-true 1 d (p .0);
-        most-depth = leb-true d 500 (q .0);
+        most-depth = leb-true d mostDepth (q .0);
         no-jump = leb-true d (suc (rowAt s l i .depth)) (r .0);
         parent = r .1;
       }

@@ -11,7 +11,7 @@ use Rattle.common.specs.Bytes.{Bytes, codes, same}
 use Rattle.common.proofs.Choice.{leb-same}
 use Rattle.common.proofs.Parts.{part-from, part-to}
 use Rattle.utf8.specs.Valid.{valid}
-use Rattle.sheet.specs.Layout.{poolStart, sizeOf, range}
+use Rattle.sheet.specs.Layout.{mostDepth, poolStart, sizeOf, range}
 use Rattle.sheet.specs.Notes.{Sized, laterRight, treeRight, textsRight, rowRight}
 use Rattle.sheet.specs.Verdict.{inside, kindRight, bodyRight, textRight}
 use Rattle.sheet.specs.declared.line.Layout.{Layout}
@@ -109,22 +109,22 @@ module _ (before r : Row) where
   later-zero h = simp (lt-leb 1 (r .depth) (omega arith))
 
   module _ (p : r .depth ≡ 0 → ⊥) where
-    pub later-deep : 500 < r .depth → false ≡ laterRight before r
+    pub later-deep : mostDepth < r .depth → false ≡ laterRight before r
     unfolding laterRight
-    later-deep h = simp (le-leb 1 (r .depth) (omega arith), lt-leb (r .depth) 500 h)
+    later-deep h = simp (le-leb 1 (r .depth) (omega arith), lt-leb (r .depth) mostDepth h)
 
-    module _ (d : r .depth ≤ 500) where
+    module _ (d : r .depth ≤ mostDepth) where
       pub later-jump : before .depth < r .depth - 1 → false ≡ laterRight before r
       unfolding laterRight
-      later-jump h = simp (le-leb 1 (r .depth) (omega arith), le-leb (r .depth) 500 d, lt-leb (r .depth) (suc (before .depth)) (omega arith))
+      later-jump h = simp (le-leb 1 (r .depth) (omega arith), le-leb (r .depth) mostDepth d, lt-leb (r .depth) (suc (before .depth)) (omega arith))
 
       pub later-child : r .depth - 1 ≡ before .depth → eqb (before .kind) 1 ≡ laterRight before r
       unfolding laterRight
-      later-child h = simp (le-leb 1 (r .depth) (omega arith), le-leb (r .depth) 500 d, le-leb (r .depth) (suc (before .depth)) (omega arith), eq-eqb (r .depth) (suc (before .depth)) (omega arith))
+      later-child h = simp (le-leb 1 (r .depth) (omega arith), le-leb (r .depth) mostDepth d, le-leb (r .depth) (suc (before .depth)) (omega arith), eq-eqb (r .depth) (suc (before .depth)) (omega arith))
 
       pub later-sibling : r .depth - 1 ≤ before .depth → (r .depth - 1 ≡ before .depth → ⊥) → true ≡ laterRight before r
       unfolding laterRight
-      later-sibling h n = simp (le-leb 1 (r .depth) (omega arith), le-leb (r .depth) 500 d, le-leb (r .depth) (suc (before .depth)) (omega arith), ne-eqb (r .depth) (suc (before .depth)) (omega (arith, n)))
+      later-sibling h n = simp (le-leb 1 (r .depth) (omega arith), le-leb (r .depth) mostDepth d, le-leb (r .depth) (suc (before .depth)) (omega arith), ne-eqb (r .depth) (suc (before .depth)) (omega (arith, n)))
 
 -- ---- the first row, and a later one
 

@@ -9,7 +9,7 @@ use Rattle.common.specs.Bytes.{Bytes, codes}
 use Rattle.utf8.specs.Valid.{valid}
 use Rattle.sheet.specs.Column.{parentOf}
 use Rattle.sheet.specs.Columns.{InColumns}
-use Rattle.sheet.specs.Layout.{rowAt, attributeAt, range, depths}
+use Rattle.sheet.specs.Layout.{mostDepth, rowAt, attributeAt, range, depths}
 use Rattle.sheet.specs.Notes.{Sized, Lined}
 use Rattle.sheet.specs.Verdict.{countsFrom}
 use Rattle.sheet.specs.declared.line.Layout.{Layout}
@@ -35,7 +35,7 @@ module _ (s : Bytes) (l : Layout) where
   -- a row behind row i
   pub record Later (i : ℕ) : Type 0 where
     pub some-depth : 1 ≤ rowAt s l (suc i) .depth
-    pub most-depth : rowAt s l (suc i) .depth ≤ 500
+    pub most-depth : rowAt s l (suc i) .depth ≤ mostDepth
     pub no-jump : rowAt s l (suc i) .depth ≤ suc (rowAt s l i .depth)
     pub parent : (j : ℕ) × (parentOf (depths s l) (suc i) ≡ some j) × (rowAt s l j .kind ≡ 1)
 

@@ -34,13 +34,15 @@ poolStart l = attributeStart l (l .attributes)
 abbrev pub sizeOf : Layout → ℕ
 sizeOf l = poolStart l + l .pool
 
--- "N 1 to 20,000; A to 60,000", "depth to 500"
+-- "N 1 to 20,000"
 abbrev pub mostRows : ℕ
 mostRows = 20000
 
+-- "A to 60,000"
 abbrev pub mostAttributes : ℕ
 mostAttributes = 60000
 
+-- a depth is not "above 500"
 abbrev pub mostDepth : ℕ
 mostDepth = 500
 

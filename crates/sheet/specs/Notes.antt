@@ -7,7 +7,7 @@ use lib.Dec.{leb, eqb}
 use lib.ListN.{length, drop}
 use Rattle.common.specs.Bytes.{Bytes}
 use Rattle.utf8.specs.Valid.{valid}
-use Rattle.sheet.specs.Layout.{poolStart, sizeOf, poolLimit, layoutOf, rowAt}
+use Rattle.sheet.specs.Layout.{poolStart, sizeOf, mostRows, mostAttributes, mostDepth, poolLimit, layoutOf, rowAt}
 use Rattle.sheet.specs.Lines.{lineRight, quadFrom, nodeLineOf}
 use Rattle.sheet.specs.Verdict.{inside, kindRight, bodyRight, textRight, nodes, nodeFormat, nodeKind, nodeTree, nodeRange, nodeText, countsFrom, attributes, attributeFormat, attributeRange, attributeText}
 use Rattle.sheet.specs.declared.line.Layout.{Layout}
@@ -41,8 +41,8 @@ noteOf Nothing false i = At i
 pub record Sized (s : Bytes) (l : Layout) : Type 0 where
   pub width : l .width ≤ 10
   pub some-node : 1 ≤ l .nodes
-  pub nodes : l .nodes ≤ 20000
-  pub attributes : l .attributes ≤ 60000
+  pub nodes : l .nodes ≤ mostRows
+  pub attributes : l .attributes ≤ mostAttributes
   pub pool : l .pool ≤ poolLimit (l .width)
   pub root : l .root < l .nodes
   pub header : lineRight (l .width) s 0 4 ≡ true
@@ -57,7 +57,7 @@ Whole s l whole = whole ≡ true → valid (drop (poolStart l) s) ≡ true
 unfoldable pub laterRight : Row → Row → Bool
 laterRight before r =
     leb 1 (r .depth)
-    && (leb (r .depth) 500 && (leb (r .depth) (suc (before .depth)) && cond (eqb (r .depth) (suc (before .depth))) (eqb (before .kind) 1) true))
+    && (leb (r .depth) mostDepth && (leb (r .depth) (suc (before .depth)) && cond (eqb (r .depth) (suc (before .depth))) (eqb (before .kind) 1) true))
 
 -- the test of row i's place in the tree, by the row before it
 abbrev pub treeRight : Bytes → Layout → ℕ → Row → Row → Bool

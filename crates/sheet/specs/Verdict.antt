@@ -8,7 +8,7 @@ use Rattle.common.specs.Answer.{Answer, refused, written}
 use Rattle.common.specs.Bytes.{Bytes, codes, same}
 use Rattle.utf8.specs.Valid.{valid}
 use Rattle.sheet.specs.Column.{parentOf}
-use Rattle.sheet.specs.Layout.{headerLength, nodeStart, attributeStart, sizeOf, poolLimit, layoutOf, rowAt, attributeAt, range, depths}
+use Rattle.sheet.specs.Layout.{headerLength, nodeStart, attributeStart, sizeOf, mostRows, mostAttributes, mostDepth, poolLimit, layoutOf, rowAt, attributeAt, range, depths}
 use Rattle.sheet.specs.Lines.{lineRight, quadFrom}
 use Rattle.sheet.specs.declared.line.Attribute.{Attribute}
 use Rattle.sheet.specs.declared.line.Layout.{Layout}
@@ -28,7 +28,7 @@ stage none refuse next = next
 
 -- "N 1 to 20,000; A to 60,000; P to 4,194,304", and "root not below N"
 unfoldable pub countsRight : Layout → Bool
-countsRight l = leb 1 (l .nodes) && (leb (l .nodes) 20000 && (leb (l .attributes) 60000 && (leb (l .pool) (poolLimit (l .width)) && ltb (l .root) (l .nodes))))
+countsRight l = leb 1 (l .nodes) && (leb (l .nodes) mostRows && (leb (l .attributes) mostAttributes && (leb (l .pool) (poolLimit (l .width)) && ltb (l .root) (l .nodes))))
 
 -- "kind or skip not listed; a non-element with a name or attributes (length or count not 0); an element with a value length not 0"
 unfoldable pub kindRight : Row → Bool
@@ -66,7 +66,7 @@ module _ (s : Bytes) (l : Layout) where
   nodeTree zero = bodyRight (rowAt s l 0)
   nodeTree (suc i) =
       leb 1 (rowAt s l (suc i) .depth)
-      && (leb (rowAt s l (suc i) .depth) 500
+      && (leb (rowAt s l (suc i) .depth) mostDepth
       && (leb (rowAt s l (suc i) .depth) (suc (rowAt s l i .depth))
       && isElement (parentOf (depths s l) (suc i))))
 

@@ -1,4 +1,5 @@
 // The tests of a row.
+use crate::limits::MOST_DEPTH;
 use crate::line::Layout;
 use crate::line::Row;
 use crate::verdict::Found;
@@ -107,7 +108,7 @@ pub fn later_right(before: Row, r: Row) -> bool
     if r.depth == 0 {
         return false;
     }
-    if r.depth > 500 {
+    if r.depth > MOST_DEPTH {
         return false;
     }
     let above = r.depth - 1;

@@ -1,6 +1,9 @@
 // What is wrong with a sheet.
 use crate::field::Field;
 use crate::field::read_field;
+use crate::limits::MOST_ATTRIBUTES;
+use crate::limits::MOST_POOL;
+use crate::limits::MOST_ROWS;
 use crate::line::Four;
 use crate::line::Layout;
 use crate::line::read_short_line;
@@ -16,7 +19,7 @@ ghost use mathlib.Core.Path.{_≡_};
 ghost use Prim.Native.Nat.{_+_, _<_, _≤_};
 ghost use lib.ListN.{drop, length};
 ghost use Rattle.utf8.specs.Valid.{valid};
-ghost use Rattle.sheet.specs.Layout.{poolLimit, poolStart, rowAt, sizeOf};
+ghost use Rattle.sheet.specs.Layout.{mostAttributes, mostRows, poolLimit, poolStart, rowAt, sizeOf};
 ghost use Rattle.sheet.specs.Lines.{numberAt};
 ghost use Rattle.sheet.specs.Notes.{Formatted, Sized, Whole, attributesNotes, attributesRight, isNothing, nodesNotes, restRight};
 ghost use Rattle.sheet.specs.Verdict.{countsRight, headerOf, judged, nodeFormat, nodes, numbers, verdict, verdictOf};
@@ -170,20 +173,20 @@ fn counts_right(l: Layout) -> bool
     if l.nodes < 1 {
         return false;
     }
-    if l.nodes > 20000 {
+    if l.nodes > MOST_ROWS {
         return false;
     }
-    if l.attributes > 60000 {
+    if l.attributes > MOST_ATTRIBUTES {
         return false;
     }
-    if l.pool > 4194304 {
+    if l.pool > MOST_POOL {
         return false;
     }
     l.root < l.nodes
 }
 
 fn size_of(l: Layout) -> usize
-    requires { ⌜ (l .width ≤ 10) × (l .nodes ≤ 20000) × (l .attributes ≤ 60000) × (l .pool ≤ poolLimit (l .width)) ⌝ }
+    requires { ⌜ (l .width ≤ 10) × (l .nodes ≤ mostRows) × (l .attributes ≤ mostAttributes) × (l .pool ≤ poolLimit (l .width)) ⌝ }
     ensures { λ x. ⌜ x ≡ sizeOf l ⌝ }
 {
     let width = l.width;

@@ -13,7 +13,7 @@ use Rattle.common.proofs.Equality.{same-of}
 use Rattle.utf8.specs.Valid.{valid}
 use Rattle.sheet.specs.Accepted.{KindOf, Text, Accepted}
 use Rattle.sheet.specs.Column.{parentOf}
-use Rattle.sheet.specs.Layout.{poolLimit, layoutOf, rowAt, attributeAt}
+use Rattle.sheet.specs.Layout.{mostRows, mostAttributes, mostDepth, poolLimit, layoutOf, rowAt, attributeAt}
 use Rattle.sheet.specs.Lines.{quadFrom}
 use Rattle.sheet.specs.Notes.{Lined}
 use Rattle.sheet.specs.Verdict.{kindRight, verdictOf}
@@ -62,7 +62,7 @@ module _ (d : Decoded) where
     tree-right (suc i) h =
         let t = r .later i h in
         and-both (le-leb 1 (rowIn d (suc i) .depth) (t .some-depth))
-        (and-both (le-leb (rowIn d (suc i) .depth) 500 (t .most-depth))
+        (and-both (le-leb (rowIn d (suc i) .depth) mostDepth (t .most-depth))
         (and-both (le-leb (rowIn d (suc i) .depth) (suc (rowIn d i .depth)) (t .no-jump))
         (ap (isElementIn d) (t .parent .1) ∙ eq-eqb (rowIn d (t .parent .0) .kind) 1 (t .parent .2))))
 
@@ -86,7 +86,7 @@ module _ (d : Decoded) where
     unfolding countsIn
     counts-right limit h =
         and-both (le-leb 1 _ (r .some-row))
-        (and-both (le-leb _ 20000 (r .rows)) (and-both (le-leb _ 60000 (r .attributes)) (and-both (le-leb _ limit h) (lt-ltb _ _ (r .root-row)))))
+        (and-both (le-leb _ mostRows (r .rows)) (and-both (le-leb _ mostAttributes (r .attributes)) (and-both (le-leb _ limit h) (lt-ltb _ _ (r .root-row)))))
 
     pub right-verdict : (w : ℕ) → length (d .pool) ≤ poolLimit w → verdictIn w d ≡ Sheet (layoutFor w d)
     unfolding verdictIn

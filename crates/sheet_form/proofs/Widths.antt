@@ -7,7 +7,7 @@ use native.Mathlib.Nat.{pow-le-pow-right}
 use native.Mathlib.Omega.{arith}
 use lib.Dec.{lit<}
 use lib.ListN.{length, getD}
-use Rattle.sheet.specs.Layout.{noRow}
+use Rattle.sheet.specs.Layout.{mostDepth, noRow}
 use Rattle.sheet.specs.declared.line.Row.{Row}
 use Rattle.sheet_form.specs.Encoding.{Fits, Below, none, some}
 use Rattle.sheet_form.specs.Decoded.{Decoded, countsOf, rowIn}
@@ -31,7 +31,7 @@ below-eight : {k a b c e a′ b′ c′ e′ : ℕ} → a < k → b < k → c < 
 below-eight p q r s p′ q′ r′ s′ = some p (some q (some r (some s (below-four p′ q′ r′ s′))))
 
 module _ {d : Decoded} (r : Right d) where
-  pub depth-small : (i : ℕ) → i < length (d .rows) → rowIn d i .depth ≤ 500
+  pub depth-small : (i : ℕ) → i < length (d .rows) → rowIn d i .depth ≤ mostDepth
   depth-small zero h = omega (arith, r .body-depth)
   depth-small (suc i) h = r .later i h .most-depth
 

@@ -6,7 +6,7 @@ use lib.Dec.{leb, ltb, eqb}
 use lib.ListN.{length}
 use Rattle.common.specs.Bytes.{codes, same}
 use Rattle.utf8.specs.Valid.{valid}
-use Rattle.sheet.specs.Layout.{poolLimit}
+use Rattle.sheet.specs.Layout.{mostRows, mostAttributes, mostDepth, poolLimit}
 use Rattle.sheet.specs.Column.{parentOf}
 use Rattle.sheet.specs.Verdict.{firstWrong, stage, kindRight}
 use Rattle.sheet.specs.declared.line.Row.{Row}
@@ -19,8 +19,8 @@ module _ (d : Decoded) where
   unfoldable pub countsIn : ℕ → Bool
   countsIn limit =
       leb 1 (length (d .rows))
-      && (leb (length (d .rows)) 20000
-      && (leb (length (d .attributes)) 60000
+      && (leb (length (d .rows)) mostRows
+      && (leb (length (d .attributes)) mostAttributes
       && (leb (length (d .pool)) limit
       && ltb (d .root) (length (d .rows)))))
 
@@ -46,7 +46,7 @@ module _ (d : Decoded) where
   treeIn zero = bodyIn (rowIn d 0)
   treeIn (suc i) =
       leb 1 (rowIn d (suc i) .depth)
-      && (leb (rowIn d (suc i) .depth) 500
+      && (leb (rowIn d (suc i) .depth) mostDepth
       && (leb (rowIn d (suc i) .depth) (suc (rowIn d i .depth))
       && isElementIn (parentOf (depthsIn d) (suc i))))
 

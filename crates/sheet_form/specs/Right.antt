@@ -8,6 +8,7 @@ use Rattle.common.specs.Bytes.{codes}
 use Rattle.utf8.specs.Valid.{valid}
 use Rattle.sheet.specs.Accepted.{KindOf}
 use Rattle.sheet.specs.Column.{parentOf}
+use Rattle.sheet.specs.Layout.{mostRows, mostAttributes, mostDepth}
 use Rattle.sheet_form.specs.Decoded.{Decoded, countsOf, rowIn, attributeIn, rangeIn, depthsIn}
 
 module _ (d : Decoded) where
@@ -19,15 +20,15 @@ module _ (d : Decoded) where
   -- a row behind row i
   pub record LaterIn (i : ℕ) : Type 0 where
     pub some-depth : 1 ≤ rowIn d (suc i) .depth
-    pub most-depth : rowIn d (suc i) .depth ≤ 500
+    pub most-depth : rowIn d (suc i) .depth ≤ mostDepth
     pub no-jump : rowIn d (suc i) .depth ≤ suc (rowIn d i .depth)
     pub parent : (j : ℕ) × (parentOf (depthsIn d) (suc i) ≡ some j) × (rowIn d j .kind ≡ 1)
 
   pub record Right : Type 0 where
     -- "N 1 to 20,000; A to 60,000"
     pub some-row : 1 ≤ length (d .rows)
-    pub rows : length (d .rows) ≤ 20000
-    pub attributes : length (d .attributes) ≤ 60000
+    pub rows : length (d .rows) ≤ mostRows
+    pub attributes : length (d .attributes) ≤ mostAttributes
     pub kind : (i : ℕ) → i < length (d .rows) → KindOf (rowIn d i)
     -- row 0 is "an element named body at depth 0"
     pub body-depth : rowIn d 0 .depth ≡ 0
