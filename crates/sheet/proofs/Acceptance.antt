@@ -17,7 +17,7 @@ use Rattle.common.proofs.Equality.{same-true}
 use Rattle.utf8.specs.Valid.{valid}
 use Rattle.sheet.specs.Accepted.{KindOf, Text, Later, Accepted}
 use Rattle.sheet.specs.Column.{parentOf}
-use Rattle.sheet.specs.Layout.{headerLength, mostDepth, sizeOf, layoutOf, rowAt, attributeAt, range, depths}
+use Rattle.sheet.specs.Layout.{headerLength, mostDepth, sizeOf, partOf, layoutOf, rowAt, attributeAt, poolOf, range, depths}
 use Rattle.sheet.specs.Lines.{lineRight, quadFrom}
 use Rattle.sheet.specs.Notes.{Sized}
 use Rattle.sheet.specs.Verdict.{stage, countsRight, kindRight, inside, bodyRight, isElement, textRight, nodes, attributes, nodeFormat, attributeFormat, nodeKind, nodeTree, nodeRange, attributeRange, nodeText, attributeText, countsFrom, judged, verdictOf, headerOf, isSheet}
@@ -28,6 +28,7 @@ use Rattle.sheet.specs.declared.verdict.Verdict.the-variants.{Sheet, Len
 use Rattle.sheet.proofs.verdict.Verdict.{the-type}
 use Rattle.sheet.proofs.FirstWrong.{all-right}
 use Rattle.sheet.proofs.Header.{counted}
+use Rattle.sheet.proofs.LayoutLaws.{in-pool, range-in-pool}
 use Rattle.sheet.proofs.Parents.{later}
 
 -- ---- each stage's test says its sentence
@@ -51,11 +52,14 @@ kind-of r e =
       other = λ h. let z = and-parts (eqb (r .«name_len») 0) (eqb (r .attributes) 0) (rw (ne-eqb (r .kind) 1 h) at (q .1)) in (eqb-true (r .«name_len») 0 (z .0), eqb-true (r .attributes) 0 (z .1));
     }
 
-module _ (s : Bytes) (l : Layout) where
-  pub text-of : (at len : ℕ) → textRight s l at len ≡ true → Text s l at len
-  unfolding textRight
-  text-of at len e = let p = and-parts (inside l at len) (valid (range s l at len)) e in record { inside = leb-true (at + len) (l .pool) (p .0); utf8 = p .1 }
+-- a text of the pool is one of the sheet
+pub text-of : {s : Bytes} {l : Layout} → Sized s l → (at len : ℕ) → textRight (poolOf s l) at len ≡ true → Text s l at len
+unfolding textRight
+text-of {s} {l} sized at len e =
+    let p = and-parts (inside (poolOf s l) at len) (valid (partOf (poolOf s l) at len)) e in
+    record { inside = in-pool sized at len (p .0); utf8 = ap valid (range-in-pool s l at len) ∙ p .1 }
 
+module _ (s : Bytes) (l : Layout) where
   record Body : Type 0 where
     depth : rowAt s l 0 .depth ≡ 0
     element : rowAt s l 0 .kind ≡ 1
@@ -65,18 +69,18 @@ module _ (s : Bytes) (l : Layout) where
   unfolding nodeTree bodyRight
   body-of e =
       let r = rowAt s l 0 in
-      let there = inside l (r .«name_at») (r .«name_len») in
-      let named = same (range s l (r .«name_at») (r .«name_len»)) (codes "body") in
+      let there = inside (poolOf s l) (r .«name_at») (r .«name_len») in
+      let named = same (partOf (poolOf s l) (r .«name_at») (r .«name_len»)) (codes "body") in
       let p = and-parts (eqb (r .kind) 1) (eqb (r .depth) 0 && (there && named)) e in
       let q = and-parts (eqb (r .depth) 0) (there && named) (p .1) in
       let n = and-parts there named (q .1) in
-      record { depth = eqb-true (r .depth) 0 (q .0); element = eqb-true (r .kind) 1 (p .0); name = same-true _ _ (n .1) }
+      record { depth = eqb-true (r .depth) 0 (q .0); element = eqb-true (r .kind) 1 (p .0); name = range-in-pool s l (r .«name_at») (r .«name_len») ∙ same-true _ _ (n .1) }
 
   pub depth-of : (i : ℕ) → nodeTree s l i ≡ true → rowAt s l i .depth ≤ mostDepth
   depth-of zero e = omega (arith, body-of e .depth)
   depth-of (suc i) e = later s l i e .most-depth
 
-  parent-of : (o : Option ℕ) → isElement s l o ≡ true → (j : ℕ) × (o ≡ some j) × (rowAt s l j .kind ≡ 1)
+  parent-of : (o : Option ℕ) → isElement (rowAt s l) o ≡ true → (j : ℕ) × (o ≡ some j) × (rowAt s l j .kind ≡ 1)
   parent-of none e = absurd-test e refl
   parent-of (some j) e = (j, refl, eqb-true (rowAt s l j .kind) 1 e)
 
@@ -232,14 +236,14 @@ module _ (s : Bytes) (l : Layout) where
       where
         node-text : (i : ℕ) → nodeText s l i ≡ true → Text s l (rowAt s l i .«name_at») (rowAt s l i .«name_len») × Text s l (rowAt s l i .«value_at») (rowAt s l i .«value_len»)
         node-text i t =
-            let p = and-parts (textRight s l (rowAt s l i .«name_at») (rowAt s l i .«name_len»)) (textRight s l (rowAt s l i .«value_at») (rowAt s l i .«value_len»)) t in
-            (text-of s l _ _ (p .0), text-of s l _ _ (p .1))
+            let p = and-parts (textRight (poolOf s l) (rowAt s l i .«name_at») (rowAt s l i .«name_len»)) (textRight (poolOf s l) (rowAt s l i .«value_at») (rowAt s l i .«value_len»)) t in
+            (text-of sized _ _ (p .0), text-of sized _ _ (p .1))
 
         attribute-text : (j : ℕ) → attributeText s l j ≡ true
             → Text s l (attributeAt s l j .«name_at») (attributeAt s l j .«name_len») × Text s l (attributeAt s l j .«value_at») (attributeAt s l j .«value_len»)
         attribute-text j t =
-            let p = and-parts (textRight s l (attributeAt s l j .«name_at») (attributeAt s l j .«name_len»)) (textRight s l (attributeAt s l j .«value_at») (attributeAt s l j .«value_len»)) t in
-            (text-of s l _ _ (p .0), text-of s l _ _ (p .1))
+            let p = and-parts (textRight (poolOf s l) (attributeAt s l j .«name_at») (attributeAt s l j .«name_len»)) (textRight (poolOf s l) (attributeAt s l j .«value_at») (attributeAt s l j .«value_len»)) t in
+            (text-of sized _ _ (p .0), text-of sized _ _ (p .1))
 
 -- ---- the header and the lines
 

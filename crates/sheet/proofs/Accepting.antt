@@ -13,7 +13,7 @@ use Rattle.common.specs.Bytes.{Bytes}
 use Rattle.common.proofs.Choice.{by-test, absurd-test, and-parts, and-both}
 use Rattle.utf8.specs.Valid.{valid}
 use Rattle.sheet.specs.Accepted.{Accepted}
-use Rattle.sheet.specs.Layout.{mostDepth, headerLength, nodeLength, nodeStart, rowAt, range}
+use Rattle.sheet.specs.Layout.{mostDepth, headerLength, nodeLength, nodeStart, partOf, rowAt, poolOf}
 use Rattle.sheet.specs.Lines.{lineRight, rowFrom, nodeLineOf}
 use Rattle.sheet.specs.Notes.{Sized, foundOf, isNothing, isNone, treeRight, rowRight, rightLine, rowIn, attributesRead, attributesRight, restRight}
 use Rattle.sheet.specs.Verdict.{inside, textRight, nodes, attributes, nodeFormat, attributeFormat, nodeKind, nodeTree, nodeRange, attributeRange, nodeText, attributeText, countsFrom, judged, isSheet}
@@ -78,23 +78,23 @@ module _ (s : Bytes) (l : Layout) (i : ℕ) (before : Row) (at first : ℕ) wher
   unfolding rowIn
   row-in-no-line e = sym (ap (rightLine s l i before first) e)
 
-  module _ {r : Row} (e : nodeLineOf (l .width) s at ≡ NodeLine.the-variants.Numbers r) where
-    pub row-in-wrong : rowRight s l i before r ≡ false → NodeLine.the-variants.Bad ≡ rowIn s l i before at first
+  module _ {r : Row} (e : nodeLineOf (l .width) s at ≡ NodeLine.the-variants.Numbers r) {pool : Bytes} (of : pool ≡ poolOf s l) where
+    pub row-in-wrong : rowRight pool i before r ≡ false → NodeLine.the-variants.Bad ≡ rowIn s l i before at first
     unfolding rowIn
-    row-in-wrong w = sym (ap (rightLine s l i before first) e ∙ rw w)
+    row-in-wrong w = sym (ap (rightLine s l i before first) e ∙ rw (← of, w))
 
-    module _ (w : rowRight s l i before r ≡ true) where
+    module _ (w : rowRight pool i before r ≡ true) where
       pub row-in-many : l .attributes < first + r .attributes → NodeLine.the-variants.Bad ≡ rowIn s l i before at first
       unfolding rowIn
-      row-in-many h = sym (ap (rightLine s l i before first) e ∙ rw (w, lt-leb (first + r .attributes) (l .attributes) h))
+      row-in-many h = sym (ap (rightLine s l i before first) e ∙ rw (← of, w, lt-leb (first + r .attributes) (l .attributes) h))
 
       pub row-in-right : first + r .attributes ≤ l .attributes → NodeLine.the-variants.Numbers r ≡ rowIn s l i before at first
       unfolding rowIn
-      row-in-right h = sym (ap (rightLine s l i before first) e ∙ rw (w, le-leb (first + r .attributes) (l .attributes) h))
+      row-in-right h = sym (ap (rightLine s l i before first) e ∙ rw (← of, w, le-leb (first + r .attributes) (l .attributes) h))
 
   pub record RowIn (r : Row) : Type 0 where
     pub line : nodeLineOf (l .width) s at ≡ NodeLine.the-variants.Numbers r
-    pub right : rowRight s l i before r ≡ true
+    pub right : rowRight (poolOf s l) i before r ≡ true
     pub few : first + r .attributes ≤ l .attributes
 
   pub row-in-numbers : {r : Row} → rowIn s l i before at first ≡ NodeLine.the-variants.Numbers r → RowIn r
@@ -103,24 +103,24 @@ module _ (s : Bytes) (l : Layout) (i : ℕ) (before : Row) (at first : ℕ) wher
     where
       by-line : (x : NodeLine) → nodeLineOf (l .width) s at ≡ x → rightLine s l i before first x ≡ NodeLine.the-variants.Numbers r → RowIn r
       by-line (NodeLine.the-variants.Numbers t) e c =
-          by-test (rowRight s l i before t && leb (first + t .attributes) (l .attributes)) (λ b. taken b (rw b at c)) (λ b. numbers-not-bad (rw b at c))
+          by-test (rowRight (poolOf s l) i before t && leb (first + t .attributes) (l .attributes)) (λ b. taken b (rw b at c)) (λ b. numbers-not-bad (rw b at c))
         where
-          taken : (rowRight s l i before t && leb (first + t .attributes) (l .attributes)) ≡ true → NodeLine.the-variants.Numbers t ≡ NodeLine.the-variants.Numbers r → RowIn r
+          taken : (rowRight (poolOf s l) i before t && leb (first + t .attributes) (l .attributes)) ≡ true → NodeLine.the-variants.Numbers t ≡ NodeLine.the-variants.Numbers r → RowIn r
           taken b h =
               let same : t ≡ r = cc in
-              let p = and-parts (rowRight s l i before t) (leb (first + t .attributes) (l .attributes)) b in
+              let p = and-parts (rowRight (poolOf s l) i before t) (leb (first + t .attributes) (l .attributes)) b in
               rw (← same) (record { line = e; right = p .0; few = leb-true (first + t .attributes) (l .attributes) (p .1) })
       by-line NodeLine.the-variants.Bad e c = numbers-not-bad c
 
   pub row-in-bad {ℓ} : {P : Type ℓ} → rowIn s l i before at first ≡ NodeLine.the-variants.Bad → (nodeLineOf (l .width) s at ≡ NodeLine.the-variants.Bad → P)
-      → ((r : Row) → nodeLineOf (l .width) s at ≡ NodeLine.the-variants.Numbers r → rowRight s l i before r ≡ false → P)
-      → ((r : Row) → nodeLineOf (l .width) s at ≡ NodeLine.the-variants.Numbers r → rowRight s l i before r ≡ true → l .attributes < first + r .attributes → P) → P
+      → ((r : Row) → nodeLineOf (l .width) s at ≡ NodeLine.the-variants.Numbers r → rowRight (poolOf s l) i before r ≡ false → P)
+      → ((r : Row) → nodeLineOf (l .width) s at ≡ NodeLine.the-variants.Numbers r → rowRight (poolOf s l) i before r ≡ true → l .attributes < first + r .attributes → P) → P
   row-in-bad {P} q no-line wrong many = by-line (nodeLineOf (l .width) s at) refl
     where
       by-line : (x : NodeLine) → nodeLineOf (l .width) s at ≡ x → P
       by-line (NodeLine.the-variants.Numbers t) e =
-          by-test (rowRight s l i before t)
-          (λ w. by-test (leb (first + t .attributes) (l .attributes)) (λ b. numbers-not-bad (sym q ∙ sym (row-in-right e w (leb-true (first + t .attributes) (l .attributes) b)))) (λ b. many t e w (leb-false (first + t .attributes) (l .attributes) b)))
+          by-test (rowRight (poolOf s l) i before t)
+          (λ w. by-test (leb (first + t .attributes) (l .attributes)) (λ b. numbers-not-bad (sym q ∙ sym (row-in-right e refl w (leb-true (first + t .attributes) (l .attributes) b)))) (λ b. many t e w (leb-false (first + t .attributes) (l .attributes) b)))
           (λ w. wrong t e w)
       by-line NodeLine.the-variants.Bad e = no-line e
 
@@ -152,10 +152,11 @@ module _ (s : Bytes) (l : Layout) where
   unfolding nodeText nodeRange textRight
   inside-range i e =
       let r = rowAt s l i in
-      let p = and-parts (textRight s l (r .«name_at») (r .«name_len»)) (textRight s l (r .«value_at») (r .«value_len»)) e in
+      let pool = poolOf s l in
+      let p = and-parts (textRight pool (r .«name_at») (r .«name_len»)) (textRight pool (r .«value_at») (r .«value_len»)) e in
       and-both
-      (and-parts (inside l (r .«name_at») (r .«name_len»)) (valid (range s l (r .«name_at») (r .«name_len»))) (p .0) .0)
-      (and-parts (inside l (r .«value_at») (r .«value_len»)) (valid (range s l (r .«value_at») (r .«value_len»))) (p .1) .0)
+      (and-parts (inside pool (r .«name_at») (r .«name_len»)) (valid (partOf pool (r .«name_at») (r .«name_len»))) (p .0) .0)
+      (and-parts (inside pool (r .«value_at») (r .«value_len»)) (valid (partOf pool (r .«value_at») (r .«value_len»))) (p .1) .0)
 
   -- the first i rows are right, and the next line begins at `at`
   pub record Rows (before : Row) (at i : ℕ) : Type 0 where
@@ -191,11 +192,11 @@ module _ (s : Bytes) (l : Layout) where
       pub row-is : r ≡ rowAt s l i
       row-is = line-numbers (l .width) s at e .1 ∙ ap (rowFrom (l .width) s) (p .place) ∙ sym (row-there s l i h)
 
-      pub row-tests : rowRight s l i before r ≡ (nodeKind s l i && (nodeTree s l i && nodeText s l i))
+      pub row-tests : rowRight (poolOf s l) i before r ≡ (nodeKind s l i && (nodeTree s l i && nodeText s l i))
       unfolding rowRight nodeKind nodeText
       row-tests = rw (row-is, tree-test s l i h (p .tree) before (p .row))
 
-      pub rows-wrong : rowRight s l i before r ≡ false → false ≡ isSheet (judged s l)
+      pub rows-wrong : rowRight (poolOf s l) i before r ≡ false → false ≡ isSheet (judged s l)
       rows-wrong w =
           refuted
           (λ g.
@@ -203,18 +204,18 @@ module _ (s : Bytes) (l : Layout) where
           (row-tests ∙ and-both (all-right (nodeKind s l) (l .nodes) (g .kinds) i h) (and-both (all-right (nodeTree s l) (l .nodes) (g .tree) i h) (all-right (nodeText s l) (l .nodes) (g .node-texts) i h)))
           w)
 
-      module _ (w : rowRight s l i before r ≡ true) where
+      module _ (w : rowRight (poolOf s l) i before r ≡ true) where
         pub row-kind : nodeKind s l i ≡ true
         row-kind = and-parts (nodeKind s l i) (nodeTree s l i && nodeText s l i) (sym row-tests ∙ w) .0
 
         pub row-place : (nodeTree s l i ≡ true) × (nodeText s l i ≡ true)
         row-place = and-parts (nodeTree s l i) (nodeText s l i) (and-parts (nodeKind s l i) (nodeTree s l i && nodeText s l i) (sym row-tests ∙ w) .1)
 
-        pub row-facts : RowFacts l r
+        pub row-facts : Sized s l → RowFacts l r
         unfolding nodeKind nodeText
-        row-facts =
-            let t = and-parts (textRight s l (rowAt s l i .«name_at») (rowAt s l i .«name_len»)) (textRight s l (rowAt s l i .«value_at») (rowAt s l i .«value_len»)) (row-place .1) in
-            rw row-is (record { listed = kind-of (rowAt s l i) row-kind .listed; deep = depth-of s l i (row-place .0); name = text-of s l _ _ (t .0) .inside; value = text-of s l _ _ (t .1) .inside })
+        row-facts sized =
+            let t = and-parts (textRight (poolOf s l) (rowAt s l i .«name_at») (rowAt s l i .«name_len»)) (textRight (poolOf s l) (rowAt s l i .«value_at») (rowAt s l i .«value_len»)) (row-place .1) in
+            rw row-is (record { listed = kind-of (rowAt s l i) row-kind .listed; deep = depth-of s l i (row-place .0); name = text-of sized _ _ (t .0) .inside; value = text-of sized _ _ (t .1) .inside })
 
         pub rows-more : {then : ℕ} → then ≡ at + nodeLength (l .width) → Rows r then (i + 1)
         rows-more t =
@@ -266,7 +267,7 @@ module _ (s : Bytes) (l : Layout) where
 
 module _ (s : Bytes) (l : Layout) where
   rows-line : (n i : ℕ) (before r : Row) → nodeLineOf (l .width) s (nodeStart l i) ≡ NodeLine.the-variants.Numbers r
-      → rowsRight s l i before (suc n) ≡ (rowRight s l i before r && rowsRight s l (suc i) r n)
+      → rowsRight s l i before (suc n) ≡ (rowRight (poolOf s l) i before r && rowsRight s l (suc i) r n)
   unfolding rowsRight
   rows-line n i before r e = rw (e, rowsRight)
 
@@ -284,7 +285,7 @@ module _ (s : Bytes) (l : Layout) where
     where
       by-line : (x : NodeLine) → nodeLineOf (l .width) s (nodeStart l i) ≡ x → isSheet (judged s l) ≡ (rowsRight s l i before (suc n) && Rest)
       by-line (NodeLine.the-variants.Numbers r) e =
-          by-test (rowRight s l i before r)
+          by-test (rowRight (poolOf s l) i before r)
           (λ w. rw (rows-line n i before r e, w) (next r (subst (λ (k : ℕ). Rows s l r (nodeStart l (suc i)) k) (add-one i) (rows-more s l p h e w {then = nodeStart l (suc i)} (omega arith)))))
           (λ w. rw (rows-line n i before r e, w) (sym (rows-wrong s l p h e w)))
       by-line NodeLine.the-variants.Bad e = rw (rows-no-line n i before e) (sym (rows-bad s l p h e))

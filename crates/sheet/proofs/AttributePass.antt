@@ -7,10 +7,10 @@ use native.Mathlib.Nat.{sub-zero}
 use native.Mathlib.Omega.{arith}
 use Rattle.common.specs.Bytes.{Bytes}
 use Rattle.common.proofs.Choice.{by-test}
-use Rattle.sheet.specs.Layout.{attributeLength, nodeStart, attributeStart, attributeAt}
-use Rattle.sheet.specs.Lines.{lineRight, quadFrom, shortLineOf}
-use Rattle.sheet.specs.Notes.{Sized, noteOf, rangesRight, textsRight, noteAttribute, attributesNotes, attributesRead}
-use Rattle.sheet.specs.Verdict.{firstWrong, attributes, attributeFormat, attributeRange, attributeText}
+use Rattle.sheet.specs.Layout.{attributeLength, nodeStart, attributeStart, attributeAt, poolOf}
+use Rattle.sheet.specs.Lines.{lineRight, quadFrom, attributeOf, shortLineOf}
+use Rattle.sheet.specs.Notes.{Sized, noteOf, noteAttribute, attributesNotes, attributesRead}
+use Rattle.sheet.specs.Verdict.{firstWrong, attributeRanges, attributeTexts, attributes, attributeFormat, attributeRange, attributeText}
 use Rattle.sheet.specs.declared.line.Four.{Four}
 use Rattle.sheet.specs.declared.line.Four
 use Rattle.sheet.specs.declared.line.Layout.{Layout}
@@ -22,10 +22,10 @@ use Rattle.sheet.specs.declared.verdict.Found.the-variants.{At, Nothing}
 use Rattle.sheet.proofs.LayoutLaws.{attribute-there}
 use Rattle.sheet.proofs.FirstWrong.{Noting, first-right, first-wrong, first-end, noting-start, noting-more, noting-end, noted-as}
 
-module _ (s : Bytes) (l : Layout) (n : AttributeNotes) (j : ℕ) (q : Quad) where
-  pub note-attribute-is : {g e : Found} {c d : Bool} → g ≡ noteOf (n .range) c j → c ≡ rangesRight l (q .first) (q .second) (q .third) (q .fourth)
-      → e ≡ noteOf (n .encoding) d j → d ≡ textsRight s l (q .first) (q .second) (q .third) (q .fourth)
-      → _≡_ {A = AttributeNotes} (record { range = g; encoding = e }) (noteAttribute s l n j q)
+module _ (pool : Bytes) (n : AttributeNotes) (j : ℕ) (q : Quad) where
+  pub note-attribute-is : {g e : Found} {c d : Bool} → g ≡ noteOf (n .range) c j → c ≡ attributeRanges pool (attributeOf q)
+      → e ≡ noteOf (n .encoding) d j → d ≡ attributeTexts pool (attributeOf q)
+      → _≡_ {A = AttributeNotes} (record { range = g; encoding = e }) (noteAttribute pool n j q)
   unfolding noteAttribute
   note-attribute-is eg ec ee ed k = record { range = noted-as (n .range) j eg ec k; encoding = noted-as (n .encoding) j ee ed k }
 
@@ -74,12 +74,12 @@ module _ (s : Bytes) (l : Layout) where
     unfolding attributesRead
     attributes-bad e = rw (sym (p .format) ∙ first-wrong (attributeFormat s l) (l .attributes) j h (format-at false (short-bad (l .width) s at e)), attributesRead)
 
-    pub attributes-more : {q : Quad} {next : AttributeNotes} {then : ℕ} → shortLineOf (l .width) s at ≡ Four.the-variants.Numbers q → next ≡ noteAttribute s l n j q
+    pub attributes-more : {q : Quad} {next : AttributeNotes} {pool : Bytes} {then : ℕ} → shortLineOf (l .width) s at ≡ Four.the-variants.Numbers q → pool ≡ poolOf s l → next ≡ noteAttribute pool n j q
         → then ≡ at + attributeLength (l .width) → Attributes next then (j + 1)
     unfolding noteAttribute attributeRange attributeText
-    attributes-more {q} {next} {then} e f t =
+    attributes-more {q} {next} {pool} {then} e of f t =
         let x = short-numbers (l .width) s at e in
-        rw (f, x .1 ∙ ap (quadFrom (l .width) s) (p .place))
+        rw (f, of, x .1 ∙ ap (quadFrom (l .width) s) (p .place))
         (record {
           within = omega arith;
           place = omega (arith, t, p .place);

@@ -1,4 +1,4 @@
--- Lines lie in the sheet; the column of depths; numbers are small.
+-- Lines and ranges lie in the sheet; the column of depths; numbers are small.
 use mathlib.Core.Path.{_≡_, refl, sym, ap, _∙_}
 use mathlib.Core.Bool.{Bool, true, false}
 use mathlib.Core.List.{List, [], _∷_}
@@ -6,13 +6,17 @@ use Prim.Native.Nat.{ℕ, zero, suc, _+_, _-_, _*_, _^_, _≤_, _<_}
 use native.Mathlib.Nat.{mul-le-mul-left, pow-le-pow-right}
 use native.Mathlib.Omega.{arith}
 use lib.Dec.{lit<}
-use lib.ListN.{length, getD, take, drop, length-take}
-use borrow.Author.Tests.{lt-ltb}
+use lib.ListN.{length, getD, take, drop, length-take, length-drop}
+use lib.Seq.{drop-drop}
+use borrow.Author.Tests.{leb-true, lt-ltb}
 use Rattle.common.specs.Bytes.{Bytes}
+use Rattle.common.proofs.Parts.{part-from}
+use Rattle.utf8.specs.Valid.{valid}
 use Rattle.sheet.specs.Columns.{fieldOf}
-use Rattle.sheet.specs.Layout.{nodeLength, attributeLength, nodeStart, attributeStart, poolStart, sizeOf, rowAt, attributeAt, depthsFrom, depths}
+use Rattle.sheet.specs.Layout.{nodeLength, attributeLength, nodeStart, attributeStart, poolStart, sizeOf, partOf, rowAt, attributeAt, poolOf, range, depthsFrom, depths}
 use Rattle.sheet.specs.Lines.{fieldAt, numberIn, numberAt, rowFrom, attributeFrom}
-use Rattle.sheet.specs.Notes.{Sized}
+use Rattle.sheet.specs.Notes.{Sized, WholePool, Whole}
+use Rattle.sheet.specs.Verdict.{inside}
 use Rattle.sheet.specs.declared.field.Field.{Field}
 use Rattle.sheet.specs.declared.field.Field.the-variants.{Number, Bad}
 use Rattle.sheet.specs.declared.line.Layout.{Layout}
@@ -27,6 +31,24 @@ module _ {s : Bytes} {l : Layout} (sized : Sized s l) where
 
   pub pool-start : length s - l .pool ≡ poolStart l
   pool-start = omega (arith, sized .size)
+
+  -- what lies in the pool lies in the sheet's
+  pub in-pool : (at len : ℕ) → inside (poolOf s l) at len ≡ true → at + len ≤ l .pool
+  in-pool at len i =
+      let long : length (poolOf s l) ≡ l .pool = simp length-drop (omega (arith, sized .size)) in
+      omega (arith, leb-true (at + len) (length (poolOf s l)) i)
+
+module _ (s : Bytes) (l : Layout) where
+  -- a range of a sheet is one of its pool
+  pub range-in-pool : (at len : ℕ) → range s l at len ≡ partOf (poolOf s l) at len
+  range-in-pool at len = ap (take len) (sym (drop-drop at (poolStart l) s))
+
+  -- `&s[start..]`
+  pub pool-part : {start : ℕ} → start ≡ poolStart l → take (length s - start) (drop start s) ≡ poolOf s l
+  pool-part {start} e = part-from s start ∙ ap (λ (k : ℕ). drop k s) e
+
+  pub pool-whole : {whole : Bool} {start : ℕ} → start ≡ poolStart l → Whole s l whole → WholePool (take (length s - start) (drop start s)) whole
+  pool-whole e h t = ap valid (pool-part e) ∙ h t
 
 -- the numbers of a row and of an attribute that are there
 module _ (s : Bytes) (l : Layout) where

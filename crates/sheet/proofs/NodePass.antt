@@ -8,10 +8,10 @@ use native.Mathlib.Omega.{arith}
 use native.Mathlib.Numerals.{add-one}
 use Rattle.common.specs.Bytes.{Bytes}
 use Rattle.common.proofs.Choice.{by-test, absurd-test}
-use Rattle.sheet.specs.Layout.{headerLength, nodeLength, nodeStart, rowAt}
+use Rattle.sheet.specs.Layout.{headerLength, nodeLength, nodeStart, rowAt, poolOf}
 use Rattle.sheet.specs.Lines.{lineRight, rowFrom, nodeLineOf}
-use Rattle.sheet.specs.Notes.{Sized, noteOf, treeRight, rangesRight, textsRight, noteRow, nodesNotes, nodesRead}
-use Rattle.sheet.specs.Verdict.{firstWrong, kindRight, nodes, nodeFormat, nodeKind, nodeTree, nodeRange, nodeText, countsFrom}
+use Rattle.sheet.specs.Notes.{Sized, noteOf, treeRight, noteRow, nodesNotes, nodesRead}
+use Rattle.sheet.specs.Verdict.{firstWrong, kindRight, rowRanges, rowTexts, nodes, nodeFormat, nodeKind, nodeTree, nodeRange, nodeText, countsFrom}
 use Rattle.sheet.specs.declared.line.Layout.{Layout}
 use Rattle.sheet.specs.declared.line.NodeLine.{NodeLine}
 use Rattle.sheet.specs.declared.line.NodeLine
@@ -25,11 +25,11 @@ use Rattle.sheet.proofs.FirstWrong.{Noting, first-right, first-wrong, f
 use Rattle.sheet.proofs.LayoutLaws.{number-below, row-there}
 use Rattle.sheet.proofs.Parents.{tree-test}
 
-module _ (s : Bytes) (l : Layout) (n : Notes) (i : ℕ) (before r : Row) where
-  pub note-row-is : {k t g e : Found} {a b c d : Bool} → k ≡ noteOf (n .kind) a i → a ≡ kindRight r → t ≡ noteOf (n .tree) b i → b ≡ treeRight s l i before r
-      → g ≡ noteOf (n .range) c i → c ≡ rangesRight l (r .«name_at») (r .«name_len») (r .«value_at») (r .«value_len»)
-      → e ≡ noteOf (n .encoding) d i → d ≡ textsRight s l (r .«name_at») (r .«name_len») (r .«value_at») (r .«value_len»)
-      → _≡_ {A = Notes} (record { kind = k; tree = t; range = g; encoding = e; counts = n .counts + r .attributes }) (noteRow s l n i before r)
+module _ (pool : Bytes) (n : Notes) (i : ℕ) (before r : Row) where
+  pub note-row-is : {k t g e : Found} {a b c d : Bool} → k ≡ noteOf (n .kind) a i → a ≡ kindRight r → t ≡ noteOf (n .tree) b i → b ≡ treeRight pool i before r
+      → g ≡ noteOf (n .range) c i → c ≡ rowRanges pool r
+      → e ≡ noteOf (n .encoding) d i → d ≡ rowTexts pool r
+      → _≡_ {A = Notes} (record { kind = k; tree = t; range = g; encoding = e; counts = n .counts + r .attributes }) (noteRow pool n i before r)
   unfolding noteRow
   note-row-is {k} {t} {g} {e} {a} {b} {c} {d} ek ea et eb eg ec ee ed j =
       record { kind = noted-as (n .kind) i ek ea j; tree = noted-as (n .tree) i et eb j; range = noted-as (n .range) i eg ec j; encoding = noted-as (n .encoding) i ee ed j; counts = n .counts + r .attributes }
@@ -110,11 +110,11 @@ module _ (s : Bytes) (l : Layout) where
     pub count-small : {r : Row} → nodeLineOf (l .width) s at ≡ NodeLine.the-variants.Numbers r → r .attributes < 10 ^ 10
     count-small e = rw (node-row e, row-there s l i h) (number-below (l .width) s _ (sized .width))
 
-    pub nodes-more : {r : Row} {next : Notes} {then : ℕ} → nodeLineOf (l .width) s at ≡ NodeLine.the-variants.Numbers r → next ≡ noteRow s l n i before r → then ≡ at + nodeLength (l .width) → Nodes next r then (i + 1)
+    pub nodes-more : {r : Row} {next : Notes} {pool : Bytes} {then : ℕ} → nodeLineOf (l .width) s at ≡ NodeLine.the-variants.Numbers r → pool ≡ poolOf s l → next ≡ noteRow pool n i before r → then ≡ at + nodeLength (l .width) → Nodes next r then (i + 1)
     unfolding noteRow nodeKind nodeRange nodeText
-    nodes-more {r} {next} {then} e q t =
+    nodes-more {r} {next} {pool} {then} e of q t =
         let x = node-row e in
-        rw (q, x)
+        rw (q, of, x)
         (record {
           within = omega arith;
           place = omega (arith, t, p .place);

@@ -4,17 +4,15 @@ use mathlib.Core.Bool.{Bool, true, false, _&&_, _||_, and-false, and-true, cond}
 use Prim.Native.Nat.{ℕ, zero, suc, _+_, _-_, _≤_, _<_}
 use native.Mathlib.Omega.{arith}
 use lib.Dec.{leb, eqb}
-use lib.ListN.{length, take, drop, length-take, length-drop}
-use lib.Seq.{drop-drop}
+use lib.ListN.{length, take, drop}
 use borrow.Author.Tests.{leb-true, le-leb, lt-leb, eq-eqb, ne-eqb}
 use Rattle.common.specs.Bytes.{Bytes, codes, same}
 use Rattle.common.proofs.Choice.{leb-same}
-use Rattle.common.proofs.Parts.{part-from, part-to}
+use Rattle.common.proofs.Parts.{part-to}
 use Rattle.utf8.specs.Valid.{valid}
-use Rattle.sheet.specs.Layout.{mostDepth, poolStart, sizeOf, range}
-use Rattle.sheet.specs.Notes.{Sized, laterRight, treeRight, textsRight, rowRight}
-use Rattle.sheet.specs.Verdict.{inside, kindRight, bodyRight, textRight}
-use Rattle.sheet.specs.declared.line.Layout.{Layout}
+use Rattle.sheet.specs.Layout.{mostDepth, partOf}
+use Rattle.sheet.specs.Notes.{laterRight, treeRight, rowRight}
+use Rattle.sheet.specs.Verdict.{inside, textRight, rowTexts, kindRight, bodyRight}
 use Rattle.sheet.specs.declared.line.Row.{Row}
 
 -- ---- ranges
@@ -25,31 +23,20 @@ inside-apart at len pool h = leb-same len (pool - at) (at + len) pool (λ k. ome
 pub inside-past : (at len pool : ℕ) → pool < at → false ≡ leb (at + len) pool
 inside-past at len pool h = sym (lt-leb (at + len) pool (omega arith))
 
-module _ {s : Bytes} {l : Layout} (sized : Sized s l) where
-  pub range-fits : (start at len : ℕ) → start ≡ poolStart l → inside l at len ≡ true → start + at + len ≤ length s
-  range-fits start at len e i = omega (arith, e, leb-true (at + len) (l .pool) i, sized .size)
+module _ (pool : Bytes) (at len : ℕ) where
+  pub inside-fits : inside pool at len ≡ true → at + len ≤ length pool
+  inside-fits i = leb-true (at + len) (length pool) i
 
-module _ (s : Bytes) (l : Layout) (at len : ℕ) where
-  pub text-outside : inside l at len ≡ false → false ≡ textRight s l at len
+  pub text-outside : inside pool at len ≡ false → false ≡ textRight pool at len
   unfolding textRight
   text-outside e = rw e
 
-  pub text-inside : (start : ℕ) → start ≡ poolStart l → inside l at len ≡ true → valid (take (start + at + len - (start + at)) (drop (start + at) s)) ≡ textRight s l at len
+  pub text-inside : inside pool at len ≡ true → valid (partOf pool at len) ≡ textRight pool at len
   unfolding textRight
-  text-inside start e i = rw i (ap valid (part-to s (start + at) len ∙ ap (λ (p : ℕ). take len (drop (p + at) s)) e))
+  text-inside i = rw i
 
--- ---- the part from the pool's start on is the pool
-
-module _ (s : Bytes) (l : Layout) (start : ℕ) (e : start ≡ poolStart l) where
-  pub pool-part : take (length s - start) (drop start s) ≡ drop (poolStart l) s
-  pool-part = part-from s start ∙ ap (λ (k : ℕ). drop k s) e
-
-  pub pool-holds : Sized s l → (at len : ℕ) → inside l at len ≡ true → at + len ≤ length (take (length s - start) (drop start s))
-  pool-holds sized at len i = simp (length-take, length-drop) (omega (arith, e, leb-true (at + len) (l .pool) i, sized .size))
-
-  pub text-in-pool : (at len : ℕ) → inside l at len ≡ true → valid (take len (drop at (take (length s - start) (drop start s)))) ≡ textRight s l at len
-  unfolding textRight
-  text-in-pool at len i = rw i (ap (λ (x : Bytes). valid (take len (drop at x))) pool-part ∙ ap (λ (x : Bytes). valid (take len x)) (drop-drop at (poolStart l) s))
+  pub text-part : inside pool at len ≡ true → valid (take (at + len - at) (drop at pool)) ≡ textRight pool at len
+  text-part i = ap valid (part-to pool at len) ∙ text-inside i
 
 -- ---- the kind
 
@@ -79,27 +66,27 @@ module _ (r : Row) where
 
 -- ---- body
 
-module _ (s : Bytes) (l : Layout) (r : Row) where
-  pub body-kind : (r .kind ≡ 1 → ⊥) → false ≡ bodyRight s l r
+module _ (pool : Bytes) (r : Row) where
+  pub body-kind : (r .kind ≡ 1 → ⊥) → false ≡ bodyRight pool r
   unfolding bodyRight
   body-kind n = simp (ne-eqb (r .kind) 1 n)
 
   module _ (e : r .kind ≡ 1) where
-    pub body-depth : (r .depth ≡ 0 → ⊥) → false ≡ bodyRight s l r
+    pub body-depth : (r .depth ≡ 0 → ⊥) → false ≡ bodyRight pool r
     unfolding bodyRight
     body-depth n = simp (eq-eqb (r .kind) 1 e, ne-eqb (r .depth) 0 n)
 
     module _ (d : r .depth ≡ 0) where
-      pub body-outside : inside l (r .«name_at») (r .«name_len») ≡ false → false ≡ bodyRight s l r
+      pub body-outside : inside pool (r .«name_at») (r .«name_len») ≡ false → false ≡ bodyRight pool r
       unfolding bodyRight
       body-outside i = simp (eq-eqb (r .kind) 1 e, eq-eqb (r .depth) 0 d, i)
 
-      pub body-name : (start : ℕ) → start ≡ poolStart l → inside l (r .«name_at») (r .«name_len») ≡ true
-          → same (take (start + r .«name_at» + r .«name_len» - (start + r .«name_at»)) (drop (start + r .«name_at») s)) (codes "body") ≡ bodyRight s l r
+      pub body-name : inside pool (r .«name_at») (r .«name_len») ≡ true
+          → same (take (r .«name_at» + r .«name_len» - r .«name_at») (drop (r .«name_at») pool)) (codes "body") ≡ bodyRight pool r
       unfolding bodyRight
-      body-name start q i =
+      body-name i =
           simp (eq-eqb (r .kind) 1 e, eq-eqb (r .depth) 0 d, i)
-          (ap (λ (t : Bytes). same t (codes "body")) (part-to s (start + r .«name_at») (r .«name_len») ∙ ap (λ (p : ℕ). take (r .«name_len») (drop (p + r .«name_at») s)) q))
+          (ap (λ (t : Bytes). same t (codes "body")) (part-to pool (r .«name_at») (r .«name_len»)))
 
 -- ---- a later row
 
@@ -128,29 +115,29 @@ module _ (before r : Row) where
 
 -- ---- the first row, and a later one
 
-module _ (s : Bytes) (l : Layout) (i : ℕ) (before r : Row) where
-  pub tree-first : i ≡ 0 → bodyRight s l r ≡ treeRight s l i before r
+module _ (pool : Bytes) (i : ℕ) (before r : Row) where
+  pub tree-first : i ≡ 0 → bodyRight pool r ≡ treeRight pool i before r
   tree-first e = rw e
 
-  pub tree-later : (i ≡ 0 → ⊥) → laterRight before r ≡ treeRight s l i before r
+  pub tree-later : (i ≡ 0 → ⊥) → laterRight before r ≡ treeRight pool i before r
   tree-later n = go i n
     where
-      go : (j : ℕ) → (j ≡ 0 → ⊥) → laterRight before r ≡ treeRight s l j before r
+      go : (j : ℕ) → (j ≡ 0 → ⊥) → laterRight before r ≡ treeRight pool j before r
       go zero m = absurd (m refl)
       go (suc j) m = refl
 
 -- ---- together
 
-module _ (s : Bytes) (l : Layout) (i : ℕ) (before r : Row) where
-  pub row-kind-wrong : kindRight r ≡ false → false ≡ rowRight s l i before r
+module _ (pool : Bytes) (i : ℕ) (before r : Row) where
+  pub row-kind-wrong : kindRight r ≡ false → false ≡ rowRight pool i before r
   unfolding rowRight
   row-kind-wrong k = rw k
 
   module _ (k : kindRight r ≡ true) where
-    pub row-tree-wrong : treeRight s l i before r ≡ false → false ≡ rowRight s l i before r
+    pub row-tree-wrong : treeRight pool i before r ≡ false → false ≡ rowRight pool i before r
     unfolding rowRight
     row-tree-wrong t = rw (k, t)
 
-    pub row-texts : treeRight s l i before r ≡ true → textsRight s l (r .«name_at») (r .«name_len») (r .«value_at») (r .«value_len») ≡ rowRight s l i before r
+    pub row-texts : treeRight pool i before r ≡ true → rowTexts pool r ≡ rowRight pool i before r
     unfolding rowRight
     row-texts t = rw (k, t)

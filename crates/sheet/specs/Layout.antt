@@ -50,6 +50,10 @@ mostDepth = 500
 abbrev pub poolLimit : ℕ → ℕ
 poolLimit w = 4194304
 
+-- a range of a pool: "At" counts from its start
+abbrev pub partOf : Bytes → ℕ → ℕ → Bytes
+partOf pool at len = take len (drop at pool)
+
 -- "nodes N, attributes A, pool bytes P, chosen root row"
 abbrev pub layoutOf : ℕ → Quad → Layout
 layoutOf w q = record { width = w; nodes = q .first; attributes = q .second; pool = q .third; root = q .fourth }
@@ -68,7 +72,11 @@ module _ (s : Bytes) (l : Layout) where
   unfoldable pub attributeAt : ℕ → Attribute
   attributeAt j = cond (ltb j (l .attributes)) (attributeFrom (l .width) s (attributeStart l j)) noAttribute
 
-  -- a range of the pool: "At" counts from its start
+  -- "The pool": what stands behind the lines
+  abbrev pub poolOf : Bytes
+  poolOf = drop (poolStart l) s
+
+  -- a range of it
   abbrev pub range : ℕ → ℕ → Bytes
   range at len = take len (drop (poolStart l + at) s)
 

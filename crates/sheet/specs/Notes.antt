@@ -4,12 +4,12 @@ use mathlib.Core.Bool.{Bool, true, false, _&&_, cond}
 use mathlib.Core.Option.{Option, none, some}
 use Prim.Native.Nat.{ℕ, zero, suc, _+_, _≤_, _<_}
 use lib.Dec.{leb, eqb}
-use lib.ListN.{length, drop}
+use lib.ListN.{length}
 use Rattle.common.specs.Bytes.{Bytes}
 use Rattle.utf8.specs.Valid.{valid}
-use Rattle.sheet.specs.Layout.{poolStart, sizeOf, mostRows, mostAttributes, mostDepth, poolLimit, layoutOf, rowAt}
-use Rattle.sheet.specs.Lines.{lineRight, quadFrom, nodeLineOf}
-use Rattle.sheet.specs.Verdict.{inside, kindRight, bodyRight, textRight, nodes, nodeFormat, nodeKind, nodeTree, nodeRange, nodeText, countsFrom, attributes, attributeFormat, attributeRange, attributeText}
+use Rattle.sheet.specs.Layout.{sizeOf, mostRows, mostAttributes, mostDepth, poolLimit, layoutOf, rowAt, poolOf}
+use Rattle.sheet.specs.Lines.{lineRight, quadFrom, attributeOf, nodeLineOf}
+use Rattle.sheet.specs.Verdict.{kindRight, rowRanges, rowTexts, attributeRanges, attributeTexts, bodyRight, nodes, nodeFormat, nodeKind, nodeTree, nodeRange, nodeText, countsFrom, attributes, attributeFormat, attributeRange, attributeText}
 use Rattle.sheet.specs.declared.line.Layout.{Layout}
 use Rattle.sheet.specs.declared.line.NodeLine.{NodeLine}
 use Rattle.sheet.specs.declared.line.NodeLine
@@ -49,9 +49,13 @@ pub record Sized (s : Bytes) (l : Layout) : Type 0 where
   pub layout : l ≡ layoutOf (l .width) (quadFrom (l .width) s 0)
   pub size : length s ≡ sizeOf l
 
--- where `whole`, the pool is UTF-8 as a whole
+-- where `whole`, a pool is UTF-8 as a whole
+abbrev pub WholePool : Bytes → Bool → Type 0
+WholePool pool whole = whole ≡ true → valid pool ≡ true
+
+-- and a sheet's pool
 abbrev pub Whole : Bytes → Layout → Bool → Type 0
-Whole s l whole = whole ≡ true → valid (drop (poolStart l) s) ≡ true
+Whole s l whole = WholePool (poolOf s l) whole
 
 -- a row behind another, where all rows before it are right: only the row just before it can be a parent that is not an element
 unfoldable pub laterRight : Row → Row → Bool
@@ -60,24 +64,18 @@ laterRight before r =
     && (leb (r .depth) mostDepth && (leb (r .depth) (suc (before .depth)) && cond (eqb (r .depth) (suc (before .depth))) (eqb (before .kind) 1) true))
 
 -- the test of row i's place in the tree, by the row before it
-abbrev pub treeRight : Bytes → Layout → ℕ → Row → Row → Bool
-treeRight s l zero before r = bodyRight s l r
-treeRight s l (suc i) before r = laterRight before r
-
-abbrev pub rangesRight : Layout → ℕ → ℕ → ℕ → ℕ → Bool
-rangesRight l at len at′ len′ = inside l at len && inside l at′ len′
-
-abbrev pub textsRight : Bytes → Layout → ℕ → ℕ → ℕ → ℕ → Bool
-textsRight s l at len at′ len′ = textRight s l at len && textRight s l at′ len′
+abbrev pub treeRight : Bytes → ℕ → Row → Row → Bool
+treeRight pool zero before r = bodyRight pool r
+treeRight pool (suc i) before r = laterRight before r
 
 -- the tests of row i together, where the rows before it are right: a text that is right lies in the pool
-unfoldable pub rowRight : Bytes → Layout → ℕ → Row → Row → Bool
-rowRight s l i before r = kindRight r && (treeRight s l i before r && textsRight s l (r .«name_at») (r .«name_len») (r .«value_at») (r .«value_len»))
+unfoldable pub rowRight : Bytes → ℕ → Row → Row → Bool
+rowRight pool i before r = kindRight r && (treeRight pool i before r && rowTexts pool r)
 
 -- a line as row i, where it is right and its attributes, behind `first` others, are there
 abbrev pub rightLine : Bytes → Layout → ℕ → Row → ℕ → NodeLine → NodeLine
 rightLine s l i before first (NodeLine.the-variants.Numbers r) =
-    cond (rowRight s l i before r && leb (first + r .attributes) (l .attributes)) (NodeLine.the-variants.Numbers r) NodeLine.the-variants.Bad
+    cond (rowRight (poolOf s l) i before r && leb (first + r .attributes) (l .attributes)) (NodeLine.the-variants.Numbers r) NodeLine.the-variants.Bad
 rightLine s l i before first NodeLine.the-variants.Bad = NodeLine.the-variants.Bad
 
 -- the line at `at`
@@ -85,13 +83,13 @@ unfoldable pub rowIn : Bytes → Layout → ℕ → Row → ℕ → ℕ → Node
 rowIn s l i before at first = rightLine s l i before first (nodeLineOf (l .width) s at)
 
 -- the notes with row i's
-unfoldable pub noteRow : Bytes → Layout → Notes → ℕ → Row → Row → Notes
-noteRow s l n i before r =
+unfoldable pub noteRow : Bytes → Notes → ℕ → Row → Row → Notes
+noteRow pool n i before r =
     record {
       kind = noteOf (n .kind) (kindRight r) i;
-      tree = noteOf (n .tree) (treeRight s l i before r) i;
-      range = noteOf (n .range) (rangesRight l (r .«name_at») (r .«name_len») (r .«value_at») (r .«value_len»)) i;
-      encoding = noteOf (n .encoding) (textsRight s l (r .«name_at») (r .«name_len») (r .«value_at») (r .«value_len»)) i;
+      tree = noteOf (n .tree) (treeRight pool i before r) i;
+      range = noteOf (n .range) (rowRanges pool r) i;
+      encoding = noteOf (n .encoding) (rowTexts pool r) i;
       counts = n .counts + r .attributes;
     }
 
@@ -110,11 +108,11 @@ unfoldable pub nodesRead : Bytes → Layout → NodesRead
 nodesRead s l = elim (nodes s l (nodeFormat s l)) [ none ↦ Noted (nodesNotes s l) | some i ↦ Bad i ]
 
 -- the notes with attribute line j's
-unfoldable pub noteAttribute : Bytes → Layout → AttributeNotes → ℕ → Quad → AttributeNotes
-noteAttribute s l n j q =
+unfoldable pub noteAttribute : Bytes → AttributeNotes → ℕ → Quad → AttributeNotes
+noteAttribute pool n j q =
     record {
-      range = noteOf (n .range) (rangesRight l (q .first) (q .second) (q .third) (q .fourth)) j;
-      encoding = noteOf (n .encoding) (textsRight s l (q .first) (q .second) (q .third) (q .fourth)) j;
+      range = noteOf (n .range) (attributeRanges pool (attributeOf q)) j;
+      encoding = noteOf (n .encoding) (attributeTexts pool (attributeOf q)) j;
     }
 
 -- what the pass over the attribute lines gives

@@ -4,7 +4,7 @@ use mathlib.Core.Bool.{Bool, true, false, _&&_}
 use Prim.Native.Nat.{ℕ, zero, suc, _≤_}
 use Rattle.common.specs.Bytes.{Bytes}
 use Rattle.sheet.specs.Accepted.{Accepted}
-use Rattle.sheet.specs.Layout.{nodeStart}
+use Rattle.sheet.specs.Layout.{nodeStart, poolOf}
 use Rattle.sheet.specs.Lines.{nodeLineOf}
 use Rattle.sheet.specs.Notes.{rowRight, restRight}
 use Rattle.sheet.specs.Verdict.{countsFrom, judged, verdictOf, isSheet}
@@ -21,7 +21,7 @@ AcceptedIsSheet = (w : ℕ) → w ≤ 10 → (s : Bytes) (l : Layout) → verdic
 unfoldable pub rowsRight : Bytes → Layout → ℕ → Row → ℕ → Bool
 rowsRight s l i before zero = true
 rowsRight s l i before (suc n) =
-    elim (nodeLineOf (l .width) s (nodeStart l i)) [ Numbers r ↦ rowRight s l i before r && rowsRight s l (suc i) r n | Bad ↦ false ]
+    elim (nodeLineOf (l .width) s (nodeStart l i)) [ Numbers r ↦ rowRight (poolOf s l) i before r && rowsRight s l (suc i) r n | Bad ↦ false ]
 
 -- the lines of a sheet are accepted exactly where its rows are right one after the other, and its counts, root and attribute lines are; what
 -- `before` says is never asked, since no row stands before row 0

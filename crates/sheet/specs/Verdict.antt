@@ -1,5 +1,6 @@
 -- What is wrong with a sheet (document 01, "Who can cause which number", 11 to 17), stage by stage in its order.
 use mathlib.Core.Bool.{Bool, true, false, _&&_, _||_, not, cond}
+use mathlib.Core.List.{List}
 use mathlib.Core.Option.{Option, none, some}
 use Prim.Native.Nat.{ℕ, zero, suc, _+_}
 use lib.Dec.{leb, ltb, eqb}
@@ -8,7 +9,7 @@ use Rattle.common.specs.Answer.{Answer, refused, written}
 use Rattle.common.specs.Bytes.{Bytes, codes, same}
 use Rattle.utf8.specs.Valid.{valid}
 use Rattle.sheet.specs.Column.{parentOf}
-use Rattle.sheet.specs.Layout.{headerLength, nodeStart, attributeStart, sizeOf, mostRows, mostAttributes, mostDepth, poolLimit, layoutOf, rowAt, attributeAt, range, depths}
+use Rattle.sheet.specs.Layout.{headerLength, nodeStart, attributeStart, sizeOf, mostRows, mostAttributes, mostDepth, poolLimit, partOf, layoutOf, rowAt, attributeAt, poolOf, depths}
 use Rattle.sheet.specs.Lines.{lineRight, quadFrom}
 use Rattle.sheet.specs.declared.line.Attribute.{Attribute}
 use Rattle.sheet.specs.declared.line.Layout.{Layout}
@@ -36,9 +37,58 @@ kindRight r =
     (eqb (r .kind) 1 || (eqb (r .kind) 3 || eqb (r .kind) 8))
     && (leb (r .skip) 1 && cond (eqb (r .kind) 1) (eqb (r .«value_len») 0) (eqb (r .«name_len») 0 && eqb (r .attributes) 0))
 
--- "at + length exceeds P"
-abbrev pub inside : Layout → ℕ → ℕ → Bool
-inside l at len = leb (at + len) (l .pool)
+-- ---- the ranges of a pool
+
+module _ (pool : Bytes) where
+  -- "at + length exceeds P"
+  abbrev pub inside : ℕ → ℕ → Bool
+  inside at len = leb (at + len) (length pool)
+
+  -- a range that lies in the pool and is UTF-8
+  unfoldable pub textRight : ℕ → ℕ → Bool
+  textRight at len = inside at len && valid (partOf pool at len)
+
+  -- the same of a name and a value
+  abbrev pub rangesRight : ℕ → ℕ → ℕ → ℕ → Bool
+  rangesRight at len at′ len′ = inside at len && inside at′ len′
+
+  abbrev pub textsRight : ℕ → ℕ → ℕ → ℕ → Bool
+  textsRight at len at′ len′ = textRight at len && textRight at′ len′
+
+  abbrev pub rowRanges : Row → Bool
+  rowRanges r = rangesRight (r .«name_at») (r .«name_len») (r .«value_at») (r .«value_len»)
+
+  abbrev pub rowTexts : Row → Bool
+  rowTexts r = textsRight (r .«name_at») (r .«name_len») (r .«value_at») (r .«value_len»)
+
+  abbrev pub attributeRanges : Attribute → Bool
+  attributeRanges a = rangesRight (a .«name_at») (a .«name_len») (a .«value_at») (a .«value_len»)
+
+  abbrev pub attributeTexts : Attribute → Bool
+  attributeTexts a = textsRight (a .«name_at») (a .«name_len») (a .«value_at») (a .«value_len»)
+
+  -- "an element named body at depth 0 (a name range past the pool is not that name)"
+  unfoldable pub bodyRight : Row → Bool
+  bodyRight r =
+      eqb (r .kind) 1
+      && (eqb (r .depth) 0 && (inside (r .«name_at») (r .«name_len») && same (partOf pool (r .«name_at») (r .«name_len»)) (codes "body")))
+
+-- ---- a row's place in the tree, by the rows and the column of their depths
+
+abbrev pub isElement : (ℕ → Row) → Option ℕ → Bool
+isElement row none = false
+isElement row (some j) = eqb (row j .kind) 1
+
+-- "a later depth is 0, above 500 or more than one above the row before; a parent is not an element"
+abbrev pub placeRight : Bytes → (ℕ → Row) → List ℕ → ℕ → Bool
+placeRight pool row depths zero = bodyRight pool (row 0)
+placeRight pool row depths (suc i) =
+    leb 1 (row (suc i) .depth)
+    && (leb (row (suc i) .depth) mostDepth
+    && (leb (row (suc i) .depth) (suc (row i .depth))
+    && isElement row (parentOf depths (suc i))))
+
+-- ---- the lines of a sheet
 
 module _ (s : Bytes) (l : Layout) where
   -- "a field or line end is not as above"
@@ -51,40 +101,20 @@ module _ (s : Bytes) (l : Layout) where
   unfoldable pub nodeKind : ℕ → Bool
   nodeKind i = kindRight (rowAt s l i)
 
-  -- "an element named body at depth 0 (a name range past the pool is not that name)"
-  unfoldable pub bodyRight : Row → Bool
-  bodyRight r =
-      eqb (r .kind) 1
-      && (eqb (r .depth) 0 && (inside l (r .«name_at») (r .«name_len») && same (range s l (r .«name_at») (r .«name_len»)) (codes "body")))
-
-  abbrev pub isElement : Option ℕ → Bool
-  isElement none = false
-  isElement (some j) = eqb (rowAt s l j .kind) 1
-
-  -- "a later depth is 0, above 500 or more than one above the row before; a parent is not an element"
   unfoldable pub nodeTree : ℕ → Bool
-  nodeTree zero = bodyRight (rowAt s l 0)
-  nodeTree (suc i) =
-      leb 1 (rowAt s l (suc i) .depth)
-      && (leb (rowAt s l (suc i) .depth) mostDepth
-      && (leb (rowAt s l (suc i) .depth) (suc (rowAt s l i .depth))
-      && isElement (parentOf (depths s l) (suc i))))
+  nodeTree i = placeRight (poolOf s l) (rowAt s l) (depths s l) i
 
   unfoldable pub nodeRange : ℕ → Bool
-  nodeRange i = let r = rowAt s l i in inside l (r .«name_at») (r .«name_len») && inside l (r .«value_at») (r .«value_len»)
+  nodeRange i = rowRanges (poolOf s l) (rowAt s l i)
 
   unfoldable pub attributeRange : ℕ → Bool
-  attributeRange j = let a = attributeAt s l j in inside l (a .«name_at») (a .«name_len») && inside l (a .«value_at») (a .«value_len»)
-
-  -- a range of the pool that is UTF-8
-  unfoldable pub textRight : ℕ → ℕ → Bool
-  textRight at len = inside l at len && valid (range s l at len)
+  attributeRange j = attributeRanges (poolOf s l) (attributeAt s l j)
 
   unfoldable pub nodeText : ℕ → Bool
-  nodeText i = let r = rowAt s l i in textRight (r .«name_at») (r .«name_len») && textRight (r .«value_at») (r .«value_len»)
+  nodeText i = rowTexts (poolOf s l) (rowAt s l i)
 
   unfoldable pub attributeText : ℕ → Bool
-  attributeText j = let a = attributeAt s l j in textRight (a .«name_at») (a .«name_len») && textRight (a .«value_at») (a .«value_len»)
+  attributeText j = attributeTexts (poolOf s l) (attributeAt s l j)
 
   -- the attribute counts of n rows from row i on
   unfoldable pub countsFrom : ℕ → ℕ → ℕ

@@ -14,8 +14,7 @@ use crate::tests::tree_right;
 use crate::verdict::Found;
 ghost use mathlib.Core.Path.{_≡_};
 ghost use Prim.Native.Nat.{_+_, _^_, _<_};
-ghost use Rattle.sheet.specs.Layout.{poolStart};
-ghost use Rattle.sheet.specs.Notes.{Sized, Whole, attributesRead, nodesRead, noteAttribute, noteRow};
+ghost use Rattle.sheet.specs.Notes.{Sized, Whole, WholePool, attributesRead, nodesRead, noteAttribute, noteRow};
 
 // Of each stage over the node lines the first that is not right, and the sum of the attribute counts.
 pub struct Notes {
@@ -31,42 +30,24 @@ pub enum NodesRead {
     Bad(usize),
 }
 
-fn note_row(
-    s: &[u8],
-    l: Layout,
-    start: usize,
-    whole: bool,
-    n: Notes,
-    i: usize,
-    before: Row,
-    r: Row,
-) -> Notes
-    requires { ⌜ (start ≡ poolStart l) × Sized (now s) l × Whole (now s) l whole × (n .counts + r .attributes < 2 ^ 64) ⌝ }
-    ensures { λ x. ⌜ x ≡ noteRow (now (s .entry)) l n i before r ⌝ }
+fn note_row(pool: &[u8], whole: bool, n: Notes, i: usize, before: Row, r: Row) -> Notes
+    requires { ⌜ WholePool (now pool) whole × (n .counts + r .attributes < 2 ^ 64) ⌝ }
+    ensures { λ x. ⌜ x ≡ noteRow (now (pool .entry)) n i before r ⌝ }
 {
     let kind = n.kind;
     let tree = n.tree;
     let range = n.range;
     let encoding = n.encoding;
     let kind = note(kind, kind_right(r), i);
-    let tree = note(tree, tree_right(s, l, start, i, before, r), i);
+    let tree = note(tree, tree_right(pool, i, before, r), i);
     let range = note(
         range,
-        ranges_right(l, r.name_at, r.name_len, r.value_at, r.value_len),
+        ranges_right(pool, r.name_at, r.name_len, r.value_at, r.value_len),
         i,
     );
     let encoding = note(
         encoding,
-        texts_right(
-            s,
-            l,
-            start,
-            whole,
-            r.name_at,
-            r.name_len,
-            r.value_at,
-            r.value_len,
-        ),
+        texts_right(pool, whole, r.name_at, r.name_len, r.value_at, r.value_len),
         i,
     );
     Notes {
@@ -84,7 +65,6 @@ pub fn read_nodes(s: &[u8], l: Layout, whole: bool) -> NodesRead
     ensures { λ x. ⌜ x ≡ nodesRead (now (s .entry)) l ⌝ }
 {
     let width = l.width;
-    let nodes = l.nodes;
     let start = s.len() - l.pool;
     let step = 8 * width + 1;
     let mut n = Notes {
@@ -106,13 +86,13 @@ pub fn read_nodes(s: &[u8], l: Layout, whole: bool) -> NodesRead
     };
     let mut at = 4 * width + 1;
     let mut i = 0;
-    while i < nodes {
+    while i < l.nodes {
         match read_node_line(s, at, width) {
             NodeLine::Bad => {
                 return NodesRead::Bad(i);
             }
             NodeLine::Numbers(r) => {
-                n = note_row(s, l, start, whole, n, i, before, r);
+                n = note_row(&s[start..], whole, n, i, before, r);
                 before = r;
                 at += step;
                 i += 1;
@@ -133,28 +113,20 @@ pub enum AttributesRead {
     Bad(usize),
 }
 
-fn note_attribute(
-    s: &[u8],
-    l: Layout,
-    start: usize,
-    whole: bool,
-    n: AttributeNotes,
-    j: usize,
-    q: Quad,
-) -> AttributeNotes
-    requires { ⌜ (start ≡ poolStart l) × Sized (now s) l × Whole (now s) l whole ⌝ }
-    ensures { λ x. ⌜ x ≡ noteAttribute (now (s .entry)) l n j q ⌝ }
+fn note_attribute(pool: &[u8], whole: bool, n: AttributeNotes, j: usize, q: Quad) -> AttributeNotes
+    requires { ⌜ WholePool (now pool) whole ⌝ }
+    ensures { λ x. ⌜ x ≡ noteAttribute (now (pool .entry)) n j q ⌝ }
 {
     let range = n.range;
     let encoding = n.encoding;
     let range = note(
         range,
-        ranges_right(l, q.first, q.second, q.third, q.fourth),
+        ranges_right(pool, q.first, q.second, q.third, q.fourth),
         j,
     );
     let encoding = note(
         encoding,
-        texts_right(s, l, start, whole, q.first, q.second, q.third, q.fourth),
+        texts_right(pool, whole, q.first, q.second, q.third, q.fourth),
         j,
     );
     AttributeNotes { range, encoding }
@@ -166,7 +138,6 @@ pub fn read_attributes(s: &[u8], l: Layout, whole: bool) -> AttributesRead
     ensures { λ x. ⌜ x ≡ attributesRead (now (s .entry)) l ⌝ }
 {
     let width = l.width;
-    let attributes = l.attributes;
     let start = s.len() - l.pool;
     let step = 4 * width + 1;
     let mut n = AttributeNotes {
@@ -175,13 +146,13 @@ pub fn read_attributes(s: &[u8], l: Layout, whole: bool) -> AttributesRead
     };
     let mut at = 4 * width + 1 + (8 * width + 1) * l.nodes;
     let mut j = 0;
-    while j < attributes {
+    while j < l.attributes {
         match read_short_line(s, at, width) {
             Four::Bad => {
                 return AttributesRead::Bad(j);
             }
             Four::Numbers(q) => {
-                n = note_attribute(s, l, start, whole, n, j, q);
+                n = note_attribute(&s[start..], whole, n, j, q);
                 at += step;
                 j += 1;
             }

@@ -27,7 +27,7 @@ pub fn row_in(
     let NodeLine::Numbers(r) = read_node_line(s, at, l.width) else {
         return NodeLine::Bad;
     };
-    if !row_right(s, l, start, whole, i, before, r) {
+    if !row_right(&s[start..], whole, i, before, r) {
         return NodeLine::Bad;
     }
     if r.attributes > l.attributes - first {

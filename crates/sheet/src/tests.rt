@@ -1,15 +1,12 @@
 // The tests of a row.
 use crate::limits::MOST_DEPTH;
-use crate::line::Layout;
 use crate::line::Row;
 use crate::verdict::Found;
 ghost use mathlib.Core.Bool.{_&&_};
 ghost use mathlib.Core.Path.{_≡_};
-ghost use Prim.Native.Nat.{_+_};
-ghost use lib.Dec.{eqb, leb};
-ghost use Rattle.sheet.specs.Layout.{poolStart};
-ghost use Rattle.sheet.specs.Notes.{Sized, Whole, laterRight, noteOf, rangesRight, rowRight, textsRight, treeRight};
-ghost use Rattle.sheet.specs.Verdict.{bodyRight, kindRight, textRight};
+ghost use lib.Dec.{eqb};
+ghost use Rattle.sheet.specs.Notes.{WholePool, laterRight, noteOf, rowRight, treeRight};
+ghost use Rattle.sheet.specs.Verdict.{bodyRight, inside, kindRight, rangesRight, textRight, textsRight};
 
 // The first line at fault so far.
 pub fn note(f: Found, right: bool, i: usize) -> Found
@@ -55,35 +52,33 @@ pub fn kind_right(r: Row) -> bool
 }
 
 // Whether a range lies in the pool.
-pub fn is_inside(at: usize, len: usize, pool: usize) -> bool
-    ensures { λ x. ⌜ x ≡ leb (at + len) pool ⌝ }
+pub fn is_inside(pool: &[u8], at: usize, len: usize) -> bool
+    ensures { λ x. ⌜ x ≡ inside (now (pool .entry)) at len ⌝ }
 {
-    if at > pool {
+    if at > pool.len() {
         return false;
     }
-    len <= pool - at
+    len <= pool.len() - at
 }
 
 // Whether a range of the pool is UTF-8. Where the pool is UTF-8 as a whole, its ends tell.
-pub fn text_right(s: &[u8], l: Layout, start: usize, whole: bool, at: usize, len: usize) -> bool
-    requires { ⌜ (start ≡ poolStart l) × Sized (now s) l × Whole (now s) l whole ⌝ }
-    ensures { λ x. ⌜ x ≡ textRight (now (s .entry)) l at len ⌝ }
+pub fn text_right(pool: &[u8], whole: bool, at: usize, len: usize) -> bool
+    requires { ⌜ WholePool (now pool) whole ⌝ }
+    ensures { λ x. ⌜ x ≡ textRight (now (pool .entry)) at len ⌝ }
 {
-    if !is_inside(at, len, l.pool) {
+    if !is_inside(pool, at, len) {
         return false;
     }
     if whole {
-        return utf8::valid_part(&s[start..], at, len);
+        return utf8::valid_part(pool, at, len);
     }
-    let from = start + at;
-    let to = from + len;
-    utf8::valid(&s[from..to])
+    let end = at + len;
+    utf8::valid(&pool[at..end])
 }
 
 // Whether a row is an element named body at depth 0.
-pub fn body_right(s: &[u8], l: Layout, start: usize, r: Row) -> bool
-    requires { ⌜ (start ≡ poolStart l) × Sized (now s) l ⌝ }
-    ensures { λ x. ⌜ x ≡ bodyRight (now (s .entry)) l r ⌝ }
+pub fn body_right(pool: &[u8], r: Row) -> bool
+    ensures { λ x. ⌜ x ≡ bodyRight (now (pool .entry)) r ⌝ }
 {
     if r.kind != 1 {
         return false;
@@ -93,12 +88,11 @@ pub fn body_right(s: &[u8], l: Layout, start: usize, r: Row) -> bool
     }
     let at = r.name_at;
     let len = r.name_len;
-    if !is_inside(at, len, l.pool) {
+    if !is_inside(pool, at, len) {
         return false;
     }
-    let from = start + at;
-    let to = from + len;
-    common::same(&s[from..to], b"body")
+    let end = at + len;
+    common::same(&pool[at..end], b"body")
 }
 
 // Whether a later row's depth and parent are right, where all rows before it are.
@@ -122,71 +116,44 @@ pub fn later_right(before: Row, r: Row) -> bool
 }
 
 // Whether row i's place in the tree is right, where those of the rows before it are.
-pub fn tree_right(s: &[u8], l: Layout, start: usize, i: usize, before: Row, r: Row) -> bool
-    requires { ⌜ (start ≡ poolStart l) × Sized (now s) l ⌝ }
-    ensures { λ x. ⌜ x ≡ treeRight (now (s .entry)) l i before r ⌝ }
+pub fn tree_right(pool: &[u8], i: usize, before: Row, r: Row) -> bool
+    ensures { λ x. ⌜ x ≡ treeRight (now (pool .entry)) i before r ⌝ }
 {
     if i == 0 {
-        return body_right(s, l, start, r);
+        return body_right(pool, r);
     }
     later_right(before, r)
 }
 
-pub fn ranges_right(l: Layout, at: usize, len: usize, at2: usize, len2: usize) -> bool
-    ensures { λ x. ⌜ x ≡ rangesRight l at len at2 len2 ⌝ }
+pub fn ranges_right(pool: &[u8], at: usize, len: usize, at2: usize, len2: usize) -> bool
+    ensures { λ x. ⌜ x ≡ rangesRight (now (pool .entry)) at len at2 len2 ⌝ }
 {
-    if is_inside(at, len, l.pool) {
-        return is_inside(at2, len2, l.pool);
+    if is_inside(pool, at, len) {
+        return is_inside(pool, at2, len2);
     }
     false
 }
 
-pub fn texts_right(
-    s: &[u8],
-    l: Layout,
-    start: usize,
-    whole: bool,
-    at: usize,
-    len: usize,
-    at2: usize,
-    len2: usize,
-) -> bool
-    requires { ⌜ (start ≡ poolStart l) × Sized (now s) l × Whole (now s) l whole ⌝ }
-    ensures { λ x. ⌜ x ≡ textsRight (now (s .entry)) l at len at2 len2 ⌝ }
+pub fn texts_right(pool: &[u8], whole: bool, at: usize, len: usize, at2: usize, len2: usize) -> bool
+    requires { ⌜ WholePool (now pool) whole ⌝ }
+    ensures { λ x. ⌜ x ≡ textsRight (now (pool .entry)) at len at2 len2 ⌝ }
 {
-    if text_right(s, l, start, whole, at, len) {
-        return text_right(s, l, start, whole, at2, len2);
+    if text_right(pool, whole, at, len) {
+        return text_right(pool, whole, at2, len2);
     }
     false
 }
 
 // The tests of row i together, where the rows before it are right.
-pub fn row_right(
-    s: &[u8],
-    l: Layout,
-    start: usize,
-    whole: bool,
-    i: usize,
-    before: Row,
-    r: Row,
-) -> bool
-    requires { ⌜ (start ≡ poolStart l) × Sized (now s) l × Whole (now s) l whole ⌝ }
-    ensures { λ x. ⌜ x ≡ rowRight (now (s .entry)) l i before r ⌝ }
+pub fn row_right(pool: &[u8], whole: bool, i: usize, before: Row, r: Row) -> bool
+    requires { ⌜ WholePool (now pool) whole ⌝ }
+    ensures { λ x. ⌜ x ≡ rowRight (now (pool .entry)) i before r ⌝ }
 {
     if !kind_right(r) {
         return false;
     }
-    if !tree_right(s, l, start, i, before, r) {
+    if !tree_right(pool, i, before, r) {
         return false;
     }
-    texts_right(
-        s,
-        l,
-        start,
-        whole,
-        r.name_at,
-        r.name_len,
-        r.value_at,
-        r.value_len,
-    )
+    texts_right(pool, whole, r.name_at, r.name_len, r.value_at, r.value_len)
 }

@@ -17,9 +17,9 @@ ghost use mathlib.Core.Bool.{_&&_};
 ghost use mathlib.Core.Option.{none};
 ghost use mathlib.Core.Path.{_≡_};
 ghost use Prim.Native.Nat.{_+_, _<_, _≤_};
-ghost use lib.ListN.{drop, length};
+ghost use lib.ListN.{length};
 ghost use Rattle.utf8.specs.Valid.{valid};
-ghost use Rattle.sheet.specs.Layout.{mostAttributes, mostRows, poolLimit, poolStart, rowAt, sizeOf};
+ghost use Rattle.sheet.specs.Layout.{mostAttributes, mostRows, poolLimit, poolOf, rowAt, sizeOf};
 ghost use Rattle.sheet.specs.Lines.{numberAt};
 ghost use Rattle.sheet.specs.Notes.{Formatted, Sized, Whole, attributesNotes, attributesRight, isNothing, nodesNotes, restRight};
 ghost use Rattle.sheet.specs.Verdict.{countsRight, headerOf, judged, nodeFormat, nodes, numbers, verdict, verdictOf};
@@ -225,7 +225,7 @@ pub fn header_in(s: &[u8], width: usize) -> Verdict
 // Whether the pool is UTF-8 as a whole.
 pub fn is_whole(s: &[u8], l: Layout) -> bool
     requires { ⌜ Sized (now s) l ⌝ }
-    ensures { λ r. ⌜ r ≡ valid (drop (poolStart l) (now (s .entry))) ⌝ }
+    ensures { λ r. ⌜ r ≡ valid (poolOf (now (s .entry)) l) ⌝ }
 {
     let start = s.len() - l.pool;
     utf8::valid(&s[start..])

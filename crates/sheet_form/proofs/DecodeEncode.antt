@@ -4,18 +4,19 @@ use mathlib.Core.List.{List, _++_}
 use Prim.Native.Nat.{ℕ, _+_, _*_, _<_}
 use native.Mathlib.Omega.{arith}
 use lib.Dec.{ltb}
-use lib.ListN.{length, getD, take, drop, length-append, List·getD-eq-default}
+use lib.ListN.{length, getD, drop, length-append, List·getD-eq-default}
 use lib.Seq.{drop-drop, drop-append-add}
 use borrow.Author.Tests.{ltb-true, ltb-false}
 use Rattle.common.specs.Bytes.{Bytes}
 use Rattle.common.proofs.Choice.{by-test}
-use Rattle.sheet.specs.Layout.{noRow, noAttribute, nodeStart, attributeStart, poolStart, sizeOf, layoutOf, rowAt, attributeAt, range}
+use Rattle.sheet.specs.Layout.{noRow, noAttribute, nodeStart, attributeStart, sizeOf, partOf, layoutOf, rowAt, attributeAt, poolOf, range}
 use Rattle.sheet.specs.Lines.{quadFrom}
 use Rattle.sheet.specs.Notes.{Lined}
 use Rattle.sheet.specs.Verdict.{nodeFormat, attributeFormat}
 use Rattle.sheet.specs.Writing.{line}
 use Rattle.sheet.specs.declared.line.Layout.{Layout}
 use Rattle.sheet.proofs.FirstWrong.{none-wrong}
+use Rattle.sheet.proofs.LayoutLaws.{range-in-pool}
 use Rattle.sheet.proofs.WritingColumns.{line-length}
 use Rattle.sheet_form.specs.Encoding.{lines, encode, decode, Fits}
 use Rattle.sheet_form.specs.Decoded.{Decoded, rowNumbers, attributeNumbers, headerNumbers, rowIn, attributeIn, rangeIn, layoutFor}
@@ -57,7 +58,7 @@ module _ (w : ℕ) (d : Decoded) where
       let p = lines-at attributeNumbers 4 w (λ a. refl) noAttribute (d .attributes) j (d .pool) h in
       (p .0, from-attributes ((4 * w + 1) * j) ∙ p .1)
 
-  pub pool-is : drop (poolStart l) s ≡ d .pool
+  pub pool-is : poolOf s l ≡ d .pool
   pool-is = from-attributes ((4 * w + 1) * length (d .attributes)) ∙ lines-behind attributeNumbers 4 w (λ a. refl) (d .attributes) (d .pool)
 
   pub encode-length : length s ≡ sizeOf l
@@ -69,7 +70,7 @@ module _ (w : ℕ) (d : Decoded) where
 
   -- a range of the pool, past its end too
   pub range-is : (at len : ℕ) → range s l at len ≡ rangeIn d at len
-  range-is at len = ap (take len) (sym (drop-drop at (poolStart l) s) ∙ ap (drop at) pool-is)
+  range-is at len = range-in-pool s l at len ∙ ap (λ (pool : Bytes). partOf pool at len) pool-is
 
 -- ---- what is read, where the numbers have room
 

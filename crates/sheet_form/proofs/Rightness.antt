@@ -16,7 +16,7 @@ use Rattle.sheet.specs.Column.{parentOf}
 use Rattle.sheet.specs.Layout.{mostRows, mostAttributes, mostDepth, poolLimit, layoutOf, rowAt, attributeAt}
 use Rattle.sheet.specs.Lines.{quadFrom}
 use Rattle.sheet.specs.Notes.{Lined}
-use Rattle.sheet.specs.Verdict.{kindRight, verdictOf}
+use Rattle.sheet.specs.Verdict.{kindRight, textRight, bodyRight, isElement, verdictOf}
 use Rattle.sheet.specs.declared.line.Layout.{Layout}
 use Rattle.sheet.specs.declared.line.Row.{Row}
 use Rattle.sheet.specs.declared.line.Attribute.{Attribute}
@@ -27,7 +27,7 @@ use Rattle.sheet.proofs.FirstWrong.{none-wrong}
 use Rattle.sheet_form.specs.Encoding.{encode, listed, decode, Fits}
 use Rattle.sheet_form.specs.Encoding as E
 use Rattle.sheet_form.specs.Decoded.{Decoded, countsOf, rowIn, attributeIn, rangeIn, layoutFor}
-use Rattle.sheet_form.specs.Judged.{kindIn, bodyIn, isElementIn, treeIn, textIn, rowRangeIn, attributeRangeIn, rowTextIn, attributeTextIn, judgedIn, countsIn, verdictIn}
+use Rattle.sheet_form.specs.Judged.{kindIn, treeIn, rowRangeIn, attributeRangeIn, rowTextIn, attributeTextIn, judgedIn, countsIn, verdictIn}
 use Rattle.sheet_form.specs.Right.{TextIn, LaterIn, Right}
 use Rattle.sheet_form.proofs.DecodeEncode.{row-is, attribute-is, range-is, encode-lined}
 use Rattle.sheet_form.proofs.EncodeDecode.{of-lined}
@@ -49,13 +49,13 @@ kind-right r p =
     (λ t. let o = p .other (eqb-false (r .kind) 1 t) in rw t (and-both (eq-eqb (r .«name_len») 0 (o .0)) (eq-eqb (r .attributes) 0 (o .1))))))
 
 module _ (d : Decoded) where
-  text-right : {at len : ℕ} → TextIn d at len → textIn d at len ≡ true
-  unfolding textIn
+  text-right : {at len : ℕ} → TextIn d at len → textRight (d .pool) at len ≡ true
+  unfolding textRight
   text-right {at} {len} t = and-both (le-leb (at + len) (length (d .pool)) (t .inside)) (t .utf8)
 
   module _ (r : Right d) where
     tree-right : (i : ℕ) → i < length (d .rows) → treeIn d i ≡ true
-    unfolding treeIn bodyIn
+    unfolding treeIn bodyRight
     tree-right zero h =
         and-both (eq-eqb (rowIn d 0 .kind) 1 (r .body-element))
         (and-both (eq-eqb (rowIn d 0 .depth) 0 (r .body-depth)) (and-both (le-leb _ (length (d .pool)) (r .name 0 h .inside)) (same-of _ _ (r .body-name))))
@@ -64,7 +64,7 @@ module _ (d : Decoded) where
         and-both (le-leb 1 (rowIn d (suc i) .depth) (t .some-depth))
         (and-both (le-leb (rowIn d (suc i) .depth) mostDepth (t .most-depth))
         (and-both (le-leb (rowIn d (suc i) .depth) (suc (rowIn d i .depth)) (t .no-jump))
-        (ap (isElementIn d) (t .parent .1) ∙ eq-eqb (rowIn d (t .parent .0) .kind) 1 (t .parent .2))))
+        (ap (isElement (rowIn d)) (t .parent .1) ∙ eq-eqb (rowIn d (t .parent .0) .kind) 1 (t .parent .2))))
 
     pub right-judged : (accepted : Verdict) → judgedIn d accepted ≡ accepted
     unfolding judgedIn kindIn rowRangeIn attributeRangeIn rowTextIn attributeTextIn

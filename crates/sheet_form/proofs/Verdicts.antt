@@ -1,26 +1,23 @@
 -- The verdict on a decoded sheet's bytes is the verdict on its numbers, whatever the width.
 use mathlib.Core.Path.{_≡_, refl, sym, ap, ap₂, _∙_, subst, fun-ext}
-use mathlib.Core.Bool.{Bool, _&&_, not, cond}
+use mathlib.Core.Bool.{not, cond}
 use mathlib.Core.List.{List, _∷_, map}
-use mathlib.Core.Option.{Option, none, some}
 use Prim.Native.Nat.{ℕ, zero, suc, _+_}
 use native.Mathlib.Omega.{arith}
-use lib.Dec.{eqb}
 use lib.ListN.{length}
 use borrow.Author.Tests.{le-ltb, eq-eqb}
 use Rattle.common.specs.Bytes.{Bytes}
-use Rattle.sheet.specs.Column.{parentOf}
 use Rattle.sheet.specs.Layout.{noRow, headerLength, sizeOf, layoutOf, rowAt, depthsFrom, depths}
 use Rattle.sheet.specs.Lines.{quadFrom}
 use Rattle.sheet.specs.Notes.{Lined}
-use Rattle.sheet.specs.Verdict.{countsRight, kindRight, bodyRight, isElement, textRight, attributes, nodeKind, nodeTree, nodeRange, attributeRange, nodeText, attributeText, countsFrom, judged, verdictOf}
+use Rattle.sheet.specs.Verdict.{countsRight, kindRight, rowRanges, rowTexts, attributeRanges, attributeTexts, placeRight, attributes, nodeKind, nodeTree, nodeRange, attributeRange, nodeText, attributeText, countsFrom, judged, verdictOf}
 use Rattle.sheet.specs.declared.line.Layout.{Layout}
 use Rattle.sheet.specs.declared.line.Row.{Row}
 use Rattle.sheet.specs.declared.verdict.Verdict.the-variants.{Sheet, Counts}
 use Rattle.sheet_form.specs.Encoding.{encode, listed, Fits}
 use Rattle.sheet_form.specs.Decoded.{Decoded, countsOf, depthsIn, layoutFor}
-use Rattle.sheet_form.specs.Judged.{kindIn, bodyIn, isElementIn, treeIn, textIn, rowRangeIn, attributeRangeIn, rowTextIn, attributeTextIn, rowsIn, attributesIn, judgedIn, countsIn, verdictIn}
-use Rattle.sheet_form.proofs.DecodeEncode.{row-is, attribute-is, range-is, encode-lined}
+use Rattle.sheet_form.specs.Judged.{kindIn, treeIn, rowRangeIn, attributeRangeIn, rowTextIn, attributeTextIn, rowsIn, attributesIn, judgedIn, countsIn, verdictIn}
+use Rattle.sheet_form.proofs.DecodeEncode.{pool-is, row-is, attribute-is, encode-lined}
 use Rattle.sheet_form.proofs.Lists.{listed-is}
 
 -- ---- what 11 and 12 do not refuse is judged by its counts and its lines
@@ -72,40 +69,27 @@ module _ (w : ℕ) (d : Decoded) (fits : Fits w d) where
   unfolding nodeKind kindIn
   kind-same i = ap kindRight (row-is w d fits i)
 
-  body-same : (r : Row) → bodyRight s l r ≡ bodyIn d r
-  unfolding bodyRight bodyIn
-  body-same r = rw (range-is w d (r .«name_at») (r .«name_len»))
-
-  element-same : (o : Option ℕ) → isElement s l o ≡ isElementIn d o
-  element-same none = refl
-  element-same (some j) = ap (λ (r : Row). eqb (r .kind) 1) (row-is w d fits j)
-
   tree-same : (i : ℕ) → nodeTree s l i ≡ treeIn d i
   unfolding nodeTree treeIn
-  tree-same zero = body-same (rowAt s l 0) ∙ ap (bodyIn d) (row-is w d fits 0)
-  tree-same (suc i) =
-      let parent = ap (λ (ds : List ℕ). isElement s l (parentOf ds (suc i))) depths-is ∙ element-same (parentOf (depthsIn d) (suc i)) in
-      rw (parent, row-is w d fits (suc i), row-is w d fits i)
-
-  text-same : (at len : ℕ) → textRight s l at len ≡ textIn d at len
-  unfolding textRight textIn
-  text-same at len = rw (range-is w d at len)
+  tree-same i =
+      ap (λ (pool : Bytes). placeRight pool (rowAt s l) (depths s l) i) (pool-is w d)
+      ∙ ap₂ (λ (row : ℕ → Row) (ds : List ℕ). placeRight (d .pool) row ds i) (fun-ext (row-is w d fits)) depths-is
 
   row-range-same : (i : ℕ) → nodeRange s l i ≡ rowRangeIn d i
   unfolding nodeRange rowRangeIn
-  row-range-same i = rw (row-is w d fits i)
+  row-range-same i = ap₂ rowRanges (pool-is w d) (row-is w d fits i)
 
   attribute-range-same : (j : ℕ) → attributeRange s l j ≡ attributeRangeIn d j
   unfolding attributeRange attributeRangeIn
-  attribute-range-same j = rw (attribute-is w d fits j)
+  attribute-range-same j = ap₂ attributeRanges (pool-is w d) (attribute-is w d fits j)
 
   row-text-same : (i : ℕ) → nodeText s l i ≡ rowTextIn d i
   unfolding nodeText rowTextIn
-  row-text-same i = rw (row-is w d fits i) (ap₂ (λ (a b : Bool). a && b) (text-same _ _) (text-same _ _))
+  row-text-same i = ap₂ rowTexts (pool-is w d) (row-is w d fits i)
 
   attribute-text-same : (j : ℕ) → attributeText s l j ≡ attributeTextIn d j
   unfolding attributeText attributeTextIn
-  attribute-text-same j = rw (attribute-is w d fits j) (ap₂ (λ (a b : Bool). a && b) (text-same _ _) (text-same _ _))
+  attribute-text-same j = ap₂ attributeTexts (pool-is w d) (attribute-is w d fits j)
 
   -- ---- the stages
 

@@ -1,9 +1,9 @@
 -- A sheet as decoded: its numbers and its pool, whatever the width of its columns (document 01, "The sheet").
 use mathlib.Core.List.{List, [], _∷_, map}
 use Prim.Native.Nat.{ℕ, _+_}
-use lib.ListN.{length, getD, take, drop, set}
+use lib.ListN.{length, getD, set}
 use Rattle.common.specs.Bytes.{Bytes}
-use Rattle.sheet.specs.Layout.{noRow, noAttribute}
+use Rattle.sheet.specs.Layout.{partOf, noRow, noAttribute}
 use Rattle.sheet.specs.declared.line.Attribute.{Attribute}
 use Rattle.sheet.specs.declared.line.Layout.{Layout}
 use Rattle.sheet.specs.declared.line.Row.{Row}
@@ -21,9 +21,8 @@ module _ (d : Decoded) where
   abbrev pub attributeIn : ℕ → Attribute
   attributeIn j = getD (d .attributes) j noAttribute
 
-  -- "At" counts from the pool's start
   abbrev pub rangeIn : ℕ → ℕ → Bytes
-  rangeIn at len = take len (drop at (d .pool))
+  rangeIn at len = partOf (d .pool) at len
 
   abbrev pub depthsIn : List ℕ
   depthsIn = map (λ (r : Row). r .depth) (d .rows)

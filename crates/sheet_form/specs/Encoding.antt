@@ -1,9 +1,9 @@
 -- A decoded sheet's bytes in columns of any width, and a sheet's bytes decoded.
 use mathlib.Core.List.{List, [], _∷_, _++_}
 use Prim.Native.Nat.{ℕ, zero, suc, _^_, _≤_, _<_}
-use lib.ListN.{length, drop}
+use lib.ListN.{length}
 use Rattle.common.specs.Bytes.{Bytes}
-use Rattle.sheet.specs.Layout.{poolStart, rowAt, attributeAt}
+use Rattle.sheet.specs.Layout.{rowAt, attributeAt, poolOf}
 use Rattle.sheet.specs.Writing.{line}
 use Rattle.sheet.specs.declared.line.Layout.{Layout}
 use Rattle.sheet_form.specs.Decoded.{Decoded, headerNumbers, rowNumbers, attributeNumbers, rowIn, attributeIn, layoutFor}
@@ -32,7 +32,7 @@ decode l s =
     record {
       rows = listed (rowAt s l) 0 (l .nodes);
       attributes = listed (attributeAt s l) 0 (l .attributes);
-      pool = drop (poolStart l) s;
+      pool = poolOf s l;
       root = l .root;
     }
 

@@ -1,18 +1,14 @@
 -- What is wrong with a decoded sheet (document 01, "Who can cause which number", 13 to 17), with the line that is named.
-use mathlib.Core.Bool.{Bool, false, _&&_, not, cond}
-use mathlib.Core.Option.{Option, none, some}
-use Prim.Native.Nat.{ℕ, zero, suc, _+_}
+use mathlib.Core.Bool.{Bool, _&&_, not, cond}
+use mathlib.Core.Option.{Option}
+use Prim.Native.Nat.{ℕ, _+_}
 use lib.Dec.{leb, ltb, eqb}
 use lib.ListN.{length}
-use Rattle.common.specs.Bytes.{codes, same}
-use Rattle.utf8.specs.Valid.{valid}
-use Rattle.sheet.specs.Layout.{mostRows, mostAttributes, mostDepth, poolLimit}
-use Rattle.sheet.specs.Column.{parentOf}
-use Rattle.sheet.specs.Verdict.{firstWrong, stage, kindRight}
-use Rattle.sheet.specs.declared.line.Row.{Row}
+use Rattle.sheet.specs.Layout.{mostRows, mostAttributes, poolLimit}
+use Rattle.sheet.specs.Verdict.{firstWrong, stage, kindRight, rowRanges, rowTexts, attributeRanges, attributeTexts, placeRight}
 use Rattle.sheet.specs.declared.verdict.Verdict.{Verdict}
 use Rattle.sheet.specs.declared.verdict.Verdict.the-variants.{Sheet, Counts, Kind, Tree, Range, Encoding}
-use Rattle.sheet_form.specs.Decoded.{Decoded, countsOf, rowIn, attributeIn, rangeIn, depthsIn, layoutFor}
+use Rattle.sheet_form.specs.Decoded.{Decoded, countsOf, rowIn, attributeIn, depthsIn, layoutFor}
 
 module _ (d : Decoded) where
   -- "N 1 to 20,000; A to 60,000; P to ..", and "root not below N"
@@ -27,44 +23,20 @@ module _ (d : Decoded) where
   unfoldable pub kindIn : ℕ → Bool
   kindIn i = kindRight (rowIn d i)
 
-  -- "at + length exceeds P"
-  abbrev pub insideIn : ℕ → ℕ → Bool
-  insideIn at len = leb (at + len) (length (d .pool))
-
-  -- "an element named body at depth 0 (a name range past the pool is not that name)"
-  unfoldable pub bodyIn : Row → Bool
-  bodyIn r =
-      eqb (r .kind) 1
-      && (eqb (r .depth) 0 && (insideIn (r .«name_at») (r .«name_len») && same (rangeIn d (r .«name_at») (r .«name_len»)) (codes "body")))
-
-  abbrev pub isElementIn : Option ℕ → Bool
-  isElementIn none = false
-  isElementIn (some j) = eqb (rowIn d j .kind) 1
-
-  -- "a later depth is 0, above 500 or more than one above the row before; a parent is not an element"
   unfoldable pub treeIn : ℕ → Bool
-  treeIn zero = bodyIn (rowIn d 0)
-  treeIn (suc i) =
-      leb 1 (rowIn d (suc i) .depth)
-      && (leb (rowIn d (suc i) .depth) mostDepth
-      && (leb (rowIn d (suc i) .depth) (suc (rowIn d i .depth))
-      && isElementIn (parentOf (depthsIn d) (suc i))))
-
-  -- "a range is not UTF-8"
-  unfoldable pub textIn : ℕ → ℕ → Bool
-  textIn at len = insideIn at len && valid (rangeIn d at len)
+  treeIn i = placeRight (d .pool) (rowIn d) (depthsIn d) i
 
   unfoldable pub rowRangeIn : ℕ → Bool
-  rowRangeIn i = let r = rowIn d i in insideIn (r .«name_at») (r .«name_len») && insideIn (r .«value_at») (r .«value_len»)
+  rowRangeIn i = rowRanges (d .pool) (rowIn d i)
 
   unfoldable pub attributeRangeIn : ℕ → Bool
-  attributeRangeIn j = let a = attributeIn d j in insideIn (a .«name_at») (a .«name_len») && insideIn (a .«value_at») (a .«value_len»)
+  attributeRangeIn j = attributeRanges (d .pool) (attributeIn d j)
 
   unfoldable pub rowTextIn : ℕ → Bool
-  rowTextIn i = let r = rowIn d i in textIn (r .«name_at») (r .«name_len») && textIn (r .«value_at») (r .«value_len»)
+  rowTextIn i = rowTexts (d .pool) (rowIn d i)
 
   unfoldable pub attributeTextIn : ℕ → Bool
-  attributeTextIn j = let a = attributeIn d j in textIn (a .«name_at») (a .«name_len») && textIn (a .«value_at») (a .«value_len»)
+  attributeTextIn j = attributeTexts (d .pool) (attributeIn d j)
 
   abbrev pub rowsIn : (ℕ → Bool) → Option ℕ
   rowsIn right = firstWrong right 0 (length (d .rows))

@@ -179,19 +179,19 @@ module _ {s : Bytes} {l : Layout} {ds₀ ts₀ fs₀ vs₀ ls₀ ds ts fs vs ls 
       pub taken-is : r ≡ rowAt s l i
       taken-is = row-is s l (g .rows) h (row .line)
 
-      pub taken-facts : RowFacts l r
-      taken-facts = row-facts s l (g .rows) h (row .line) (row .right)
+      pub taken-facts : Sized s l → RowFacts l r
+      taken-facts sized = row-facts s l (g .rows) h (row .line) (row .right) sized
 
       pub taken-few : first + r .attributes ≤ l .attributes
       taken-few = row .few
 
-      pub taking-more : {t then : ℕ} {b : Bool} → Columns (l .nodes) ds₀ ts₀ fs₀ vs₀ ls₀ bs₀ → ((j : ℕ) → r ≡ rowAt s l j → t ≡ tagOf (tag (nodeAt s l j))) → b ≡ (eqb (r .kind) 8 || eqb (r .skip) 1) → then ≡ at + nodeLength (l .width)
+      pub taking-more : {t then : ℕ} {b : Bool} → Sized s l → Columns (l .nodes) ds₀ ts₀ fs₀ vs₀ ls₀ bs₀ → ((j : ℕ) → r ≡ rowAt s l j → t ≡ tagOf (tag (nodeAt s l j))) → b ≡ (eqb (r .kind) 8 || eqb (r .skip) 1) → then ≡ at + nodeLength (l .width)
           → Taking s l ds₀ ts₀ fs₀ vs₀ ls₀ bs₀ (set ds i (r .depth)) (set ts i t) (set fs i first) (set vs i (r .«value_at»)) (set ls i (r .«value_len»)) (set bs i b) r then (first + r .attributes) (i + 1)
-      taking-more room t-is b-is then-is =
+      taking-more sized room t-is b-is then-is =
           record {
             rows = rows-more s l (g .rows) h (row .line) (row .right) then-is;
             few = row .few;
-            reading = reading-more (g .reading) room h taken-is (t-is i taken-is) (left-read s l i taken-is (taken-facts .listed) b-is);
+            reading = reading-more (g .reading) room h taken-is (t-is i taken-is) (left-read s l i taken-is (taken-facts sized .listed) b-is);
           }
 
   pub taking-end : l .nodes ≤ i → restRight s l first ≡ isSheet (judged s l)

@@ -3,16 +3,16 @@ use Prim.Native.Nat.{_-_}
 use mathlib.Core.Path.{refl, sym, _∙_}
 use native.Mathlib.Omega.{arith}
 use borrow.Author.Needs.{needs}
-use Rattle.sheet.proofs.LayoutLaws.{attribute-fits, pool-start}
+use Rattle.sheet.proofs.LayoutLaws.{attribute-fits, pool-start, pool-part, pool-whole}
 use Rattle.sheet.proofs.AttributePass.{Attributes, attributes-start, attributes-bad, attributes-more, attributes-end}
 use Rattle.sheet.proofs.notes.read_attributes.Statement.{statement}
 use Rattle.sheet.proofs.notes.read_attributes.Tie as tie
 
 abbrev Inv-loop : tie.InvT-loop
-Inv-loop s l whole width attributes start step n₀ at₀ j₀ n at j = Attributes s l n at j
+Inv-loop s l whole width start step n₀ at₀ j₀ n at j = Attributes s l n at j
 
 abbrev μ-loop : tie.MeasureT-loop
-μ-loop s l whole width attributes start step n₀ at₀ j₀ n at j = attributes - j
+μ-loop s l whole width start step n₀ at₀ j₀ n at j = l .attributes - j
 
 sub-start : tie.Need-sub-start Inv-loop μ-loop
 sub-start c = omega (arith, c .before .before .pre .0 .size)
@@ -46,41 +46,31 @@ loop-holds c = attributes-start _ _
 
 read-short-line-requires : tie.Need-read-short-line-requires Inv-loop μ-loop
 read-short-line-requires c κs =
-    let l = c .before .loop in
-    (omega (arith, l .inv .place, attribute-fits (c .before .before .before .before .before .pre .0) (l .j) (c .loop-test .taken)), omega (arith, c .before .before .before .before .before .pre .0 .width))
-
-enum-told : tie.Need-enum-told Inv-loop μ-loop
-enum-told c = search needs
+    let l = c .before .before .loop in
+    let sized = c .before .before .before .before .before .before .pre .0 in
+    (omega (arith, l .inv .place, attribute-fits sized (l .j) (c .if1 .taken)), omega (arith, sized .width))
 
 returns : tie.Need-returns Inv-loop μ-loop
-returns c =
-    let l = c .before .before .before .before .loop in
-    attributes-bad _ _ (l .inv) (c .before .before .before .loop-test .taken) (sym (c .before .before .read-short-line .ensures) ∙ c .enum-told .given .1)
-
-enum-known-q : tie.Need-enum-known-q Inv-loop μ-loop
-enum-known-q c = search needs
+returns c = attributes-bad _ _ (c .before .before .before .before .before .loop .inv) (c .before .before .before .if1 .taken) (sym (c .before .before .read-short-line .ensures) ∙ c .enum-told .given .1)
 
 note-attribute-requires : tie.Need-note-attribute-requires Inv-loop μ-loop
-note-attribute-requires c κs = let p = c .before .before .before .before .before .before .before .before .before .pre in (pool-start (p .0), p .0, p .1)
+note-attribute-requires c κs = let p = c .before .before .before .before .before .before .before .before .before .before .before .pre in pool-whole _ (c .before .before .before .before .before .before .before .before .before .before .before .args .l) (pool-start (p .0)) (p .1)
 
 add-at-4 : tie.Need-add-at-4 Inv-loop μ-loop
-add-at-4 c =
-    let l = c .before .before .before .before .before .before .loop in
-    omega (arith, l .inv .place, attribute-fits (c .before .before .before .before .before .before .before .before .before .before .pre .0) (l .j) (c .before .before .before .before .before .loop-test .taken))
+add-at-4 c = let l = c .before .before .before .before .before .before .before .before .loop in omega (arith, l .inv .place, attribute-fits (c .before .before .before .before .before .before .before .before .before .before .before .before .pre .0) (l .j) (c .before .before .before .before .before .before .if1 .taken))
 
 add-j : tie.Need-add-j Inv-loop μ-loop
-add-j c = omega (arith, c .before .before .before .before .before .loop-test .taken, c .before .before .before .before .before .before .before .before .before .before .pre .0 .attributes)
+add-j c = omega (arith, c .before .before .before .before .before .before .if1 .taken, c .before .before .before .before .before .before .before .before .before .before .before .before .pre .0 .attributes)
 
 loop-less : tie.Need-loop-less Inv-loop μ-loop
-loop-less c = omega (arith, c .before .before .before .before .before .loop-test .taken)
+loop-less c = omega (arith, c .before .before .before .before .before .before .if1 .taken)
 
 loop-again : tie.Need-loop-again Inv-loop μ-loop
 loop-again c =
-    let l = c .before .before .before .before .before .before .loop in
-    attributes-more _ _ (l .inv) (c .before .before .before .before .before .loop-test .taken) (sym (c .before .before .before .before .read-short-line .ensures) ∙ c .before .before .q .given .1) (c .note-attribute .ensures) refl
+    attributes-more _ _ (c .before .before .before .before .before .before .before .before .loop .inv) (c .before .before .before .before .before .before .if1 .taken) (sym (c .before .before .before .before .before .read-short-line .ensures) ∙ c .before .before .before .q .given .1) (pool-part _ (c .before .before .before .before .before .before .before .before .before .before .before .before .args .l) (pool-start (c .before .before .before .before .before .before .before .before .before .before .before .before .pre .0))) (c .note-attribute .ensures) refl
 
 returns-2 : tie.Need-returns-2 Inv-loop μ-loop
-returns-2 c = attributes-end _ _ (c .before .loop .inv) (c .loop-test .left)
+returns-2 c = attributes-end _ _ (c .before .before .loop .inv) (c .if1 .left)
 
 pub read-attributes-spec : {M : Type 1} → statement M
 read-attributes-spec =
@@ -99,9 +89,12 @@ read-attributes-spec =
     add-at-3
     loop-holds
     read-short-line-requires
-    enum-told
+    (λ c. search needs)
     returns
-    enum-known-q
+    (λ c. search needs)
+    (λ c. search needs)
+    (λ c. search needs)
+    (λ c. search needs)
     note-attribute-requires
     add-at-4
     add-j

@@ -10,19 +10,19 @@ kind-right-requires : tie.Need-kind-right-requires
 kind-right-requires c κs = search needs
 
 returns : tie.Need-returns
-returns c = row-kind-wrong _ _ _ _ _ (sym (c .before .kind-right .ensures) ∙ not-true _ (c .if1 .taken))
+returns c = row-kind-wrong _ _ _ _ (sym (c .before .kind-right .ensures) ∙ not-true _ (c .if1 .taken))
 
 tree-right-requires : tie.Need-tree-right-requires
 tree-right-requires c κs = search needs
 
 returns-2 : tie.Need-returns-2
-returns-2 c = row-tree-wrong _ _ _ _ _ (sym (c .before .before .before .kind-right .ensures) ∙ not-false _ (c .before .before .if1 .left)) (sym (c .before .tree-right .ensures) ∙ not-true _ (c .if2 .taken))
+returns-2 c = row-tree-wrong _ _ _ _ (sym (c .before .before .before .kind-right .ensures) ∙ not-false _ (c .before .before .if1 .left)) (sym (c .before .tree-right .ensures) ∙ not-true _ (c .if2 .taken))
 
 texts-right-requires : tie.Need-texts-right-requires
 texts-right-requires c κs = search needs
 
 returns-3 : tie.Need-returns-3
-returns-3 c = c .texts-right .ensures ∙ row-texts _ _ _ _ _ (sym (c .before .before .before .before .kind-right .ensures) ∙ not-false _ (c .before .before .before .if1 .left)) (sym (c .before .before .tree-right .ensures) ∙ not-false _ (c .before .if2 .left))
+returns-3 c = c .texts-right .ensures ∙ row-texts _ _ _ _ (sym (c .before .before .before .before .kind-right .ensures) ∙ not-false _ (c .before .before .before .if1 .left)) (sym (c .before .before .tree-right .ensures) ∙ not-false _ (c .before .if2 .left))
 
 pub row-right-spec : {M : Type 1} → statement M
 row-right-spec =

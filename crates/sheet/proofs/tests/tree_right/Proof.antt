@@ -9,13 +9,13 @@ body-right-requires : tie.Need-body-right-requires
 body-right-requires c κs = search needs
 
 returns : tie.Need-returns
-returns c = c .body-right .ensures ∙ tree-first _ _ _ _ _ (c .before .if1 .taken)
+returns c = c .body-right .ensures ∙ tree-first _ _ _ _ (c .before .if1 .taken)
 
 later-right-requires : tie.Need-later-right-requires
 later-right-requires c κs = search needs
 
 returns-2 : tie.Need-returns-2
-returns-2 c = c .later-right .ensures ∙ tree-later _ _ _ _ _ (c .before .if1 .left)
+returns-2 c = c .later-right .ensures ∙ tree-later _ _ _ _ (c .before .if1 .left)
 
 pub tree-right-spec : {M : Type 1} → statement M
 tree-right-spec = tie.close (tie.spec body-right-requires returns later-right-requires returns-2)

@@ -1,11 +1,7 @@
 -- `verdict::is_whole` meets its contract.
 use mathlib.Core.Path.{ap, _∙_}
-use Prim.Native.Nat.{_-_}
-use lib.ListN.{drop, length}
-use denote.Ref.{now}
-use Rattle.common.proofs.Parts.{part-from}
 use Rattle.utf8.specs.Valid.{valid}
-use Rattle.sheet.proofs.LayoutLaws.{pool-start}
+use Rattle.sheet.proofs.LayoutLaws.{pool-start, pool-part}
 use borrow.Author.Needs.{needs}
 use Rattle.sheet.proofs.verdict.is_whole.Statement.{statement}
 use Rattle.sheet.proofs.verdict.is_whole.Tie as tie
@@ -26,7 +22,7 @@ valid-requires : tie.Need-valid-requires
 valid-requires c κs = search needs
 
 returns : tie.Need-returns
-returns c = c .valid .ensures ∙ ap valid (part-from (now (c .before .before .before .before .args .s)) (length (now (c .before .before .before .before .args .s)) - c .before .before .before .before .args .l .pool)) ∙ ap (λ k. valid (drop k (now (c .before .before .before .before .args .s)))) (pool-start (c .before .before .before .before .pre))
+returns c = c .valid .ensures ∙ ap valid (pool-part _ (c .before .before .before .before .args .l) (pool-start (c .before .before .before .before .pre)))
 
 pub is-whole-spec : {M : Type 1} → statement M
 is-whole-spec =

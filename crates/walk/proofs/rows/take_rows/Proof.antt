@@ -65,7 +65,7 @@ returns : tie.Need-returns Inv-loop μ-loop
 returns c = (taking-bad (c .before .before .before .before .loop .inv) (c .before .before .before .loop-test .taken) (c .before .before .before .before .before .before .before .before .before .before .before .before .before .pre .0 .0) (sym (c .before .before .row-in .ensures) ∙ c .enum-told .given .1), λ e. absurd-test e refl)
 
 cast-depths : tie.Need-cast-depths Inv-loop μ-loop
-cast-depths c = omega (arith, taken-facts (c .before .before .before .before .before .before .loop .inv) (c .before .before .before .before .before .loop-test .taken) (sym (c .before .before .before .before .row-in .ensures) ∙ c .before .before .r .given .1) .deep)
+cast-depths c = omega (arith, taken-facts (c .before .before .before .before .before .before .loop .inv) (c .before .before .before .before .before .loop-test .taken) (sym (c .before .before .before .before .row-in .ensures) ∙ c .before .before .r .given .1) (c .before .before .before .before .before .before .before .before .before .before .before .before .before .before .before .pre .0 .0) .deep)
 
 mul-depths : tie.Need-mul-depths Inv-loop μ-loop
 mul-depths c = omega (arith, c .before .before .before .before .before .loop-test .taken, c .before .before .before .before .before .before .before .before .before .before .before .before .before .before .before .pre .0 .0 .nodes)
@@ -74,7 +74,7 @@ slice-write-depths : tie.Need-slice-write-depths Inv-loop μ-loop
 slice-write-depths c = room-at (c .before .before .before .before .before .before .loop .inv .reading) (c .before .before .before .before .before .before .before .before .before .before .before .before .before .before .before .pre .1) (c .before .before .before .before .before .loop-test .taken) .depths-long
 
 tag-in-requires : tie.Need-tag-in-requires Inv-loop μ-loop
-tag-in-requires c κs = (pool-start (c .before .before .before .before .before .before .before .before .before .before .before .before .before .before .before .pre .0 .0), c .before .before .before .before .before .before .before .before .before .before .before .before .before .before .before .pre .0 .0, taken-facts (c .before .before .before .before .before .before .loop .inv) (c .before .before .before .before .before .loop-test .taken) (sym (c .before .before .before .before .row-in .ensures) ∙ c .before .before .r .given .1) .name)
+tag-in-requires c κs = (pool-start (c .before .before .before .before .before .before .before .before .before .before .before .before .before .before .before .pre .0 .0), c .before .before .before .before .before .before .before .before .before .before .before .before .before .before .before .pre .0 .0, taken-facts (c .before .before .before .before .before .before .loop .inv) (c .before .before .before .before .before .loop-test .taken) (sym (c .before .before .before .before .row-in .ensures) ∙ c .before .before .r .given .1) (c .before .before .before .before .before .before .before .before .before .before .before .before .before .before .before .pre .0 .0) .name)
 
 slice-write-tags : tie.Need-slice-write-tags Inv-loop μ-loop
 slice-write-tags c = room-at (c .before .before .before .before .before .before .before .loop .inv .reading) (c .before .before .before .before .before .before .before .before .before .before .before .before .before .before .before .before .pre .1) (c .before .before .before .before .before .before .loop-test .taken) .tags-long
@@ -89,7 +89,7 @@ slice-write-attributes : tie.Need-slice-write-attributes Inv-loop μ-loop
 slice-write-attributes c = room-at (c .before .before .before .before .before .before .before .loop .inv .reading) (c .before .before .before .before .before .before .before .before .before .before .before .before .before .before .before .before .pre .1) (c .before .before .before .before .before .before .loop-test .taken) .attributes-long
 
 cast-values : tie.Need-cast-values Inv-loop μ-loop
-cast-values c = omega (arith, taken-facts (c .before .before .before .before .before .before .before .before .loop .inv) (c .before .before .before .before .before .before .before .loop-test .taken) (sym (c .before .before .before .before .before .before .row-in .ensures) ∙ c .before .before .before .before .r .given .1) .value, c .before .before .before .before .before .before .before .before .before .before .before .before .before .before .before .before .before .pre .0 .0 .pool)
+cast-values c = omega (arith, taken-facts (c .before .before .before .before .before .before .before .before .loop .inv) (c .before .before .before .before .before .before .before .loop-test .taken) (sym (c .before .before .before .before .before .before .row-in .ensures) ∙ c .before .before .before .before .r .given .1) (c .before .before .before .before .before .before .before .before .before .before .before .before .before .before .before .before .before .pre .0 .0) .value, c .before .before .before .before .before .before .before .before .before .before .before .before .before .before .before .before .before .pre .0 .0 .pool)
 
 mul-values : tie.Need-mul-values Inv-loop μ-loop
 mul-values c = omega (arith, c .before .before .before .before .before .before .before .loop-test .taken, c .before .before .before .before .before .before .before .before .before .before .before .before .before .before .before .before .before .pre .0 .0 .nodes)
@@ -98,7 +98,7 @@ slice-write-values : tie.Need-slice-write-values Inv-loop μ-loop
 slice-write-values c = room-at (c .before .before .before .before .before .before .before .before .loop .inv .reading) (c .before .before .before .before .before .before .before .before .before .before .before .before .before .before .before .before .before .pre .1) (c .before .before .before .before .before .before .before .loop-test .taken) .values-long
 
 cast-lengths : tie.Need-cast-lengths Inv-loop μ-loop
-cast-lengths c = omega (arith, taken-facts (c .before .before .before .before .before .before .before .before .before .loop .inv) (c .before .before .before .before .before .before .before .before .loop-test .taken) (sym (c .before .before .before .before .before .before .before .row-in .ensures) ∙ c .before .before .before .before .before .r .given .1) .value, c .before .before .before .before .before .before .before .before .before .before .before .before .before .before .before .before .before .before .pre .0 .0 .pool)
+cast-lengths c = omega (arith, taken-facts (c .before .before .before .before .before .before .before .before .before .loop .inv) (c .before .before .before .before .before .before .before .before .loop-test .taken) (sym (c .before .before .before .before .before .before .before .row-in .ensures) ∙ c .before .before .before .before .before .r .given .1) (c .before .before .before .before .before .before .before .before .before .before .before .before .before .before .before .before .before .before .pre .0 .0) .value, c .before .before .before .before .before .before .before .before .before .before .before .before .before .before .before .before .before .before .pre .0 .0 .pool)
 
 mul-lengths : tie.Need-mul-lengths Inv-loop μ-loop
 mul-lengths c = omega (arith, c .before .before .before .before .before .before .before .before .loop-test .taken, c .before .before .before .before .before .before .before .before .before .before .before .before .before .before .before .before .before .before .pre .0 .0 .nodes)
@@ -125,7 +125,7 @@ loop-less : tie.Need-loop-less Inv-loop μ-loop
 loop-less c = omega (arith, c .before .before .before .before .before .before .before .before .before .before .loop-test .taken)
 
 loop-again : tie.Need-loop-again Inv-loop μ-loop
-loop-again c = taking-more (c .before .before .before .before .before .before .before .before .before .before .before .loop .inv) (c .before .before .before .before .before .before .before .before .before .before .loop-test .taken) (sym (c .before .before .before .before .before .before .before .before .before .row-in .ensures) ∙ c .before .before .before .before .before .before .before .r .given .1) (c .before .before .before .before .before .before .before .before .before .before .before .before .before .before .before .before .before .before .before .before .pre .1) (c .before .before .before .before .tag-in .ensures) (c .before .comment-or-marked .ensures) refl
+loop-again c = taking-more (c .before .before .before .before .before .before .before .before .before .before .before .loop .inv) (c .before .before .before .before .before .before .before .before .before .before .loop-test .taken) (sym (c .before .before .before .before .before .before .before .before .before .row-in .ensures) ∙ c .before .before .before .before .before .before .before .r .given .1) (c .before .before .before .before .before .before .before .before .before .before .before .before .before .before .before .before .before .before .before .before .pre .0 .0) (c .before .before .before .before .before .before .before .before .before .before .before .before .before .before .before .before .before .before .before .before .pre .1) (c .before .before .before .before .tag-in .ensures) (c .before .comment-or-marked .ensures) refl
 
 rest-right-requires : tie.Need-rest-right-requires Inv-loop μ-loop
 rest-right-requires c κs = c .before .before .before .before .before .before .before .before .before .before .pre .0
