@@ -12,7 +12,7 @@ use borrow.Author.Tests.{ltb-true, ltb-false}
 use Rattle.common.specs.Answer.{Answer, refused}
 use Rattle.common.specs.Bytes.{Bytes}
 use Rattle.common.proofs.Choice.{by-test, by-cond}
-use Rattle.html2text.specs.Bounds.{AnswerBounded, writtenBy}
+use Rattle.html2text.specs.Bounds.{beside, AnswerBounded, writtenBy}
 use Rattle.html2text.specs.Extract.{numbers, extraction}
 use Rattle.html2text.specs.Extract as extract
 use Rattle.html2text.specs.declared.Extraction.{Extraction}
@@ -43,20 +43,20 @@ use Rattle.printing.proofs.Showing.{answer-length}
 
 -- by its rows, the pool being what they leave: the greatest is 77,241,311, at 129 rows
 abbrev most : ℕ → ℕ
-most n = (2 * n + 1) * (6 * (6 * (16351 - 65 * n) + 11) + (20 * (2 * n) + 6227))
+most n = (2 * n + 1) * (6 * (6 * (16351 - 65 * n) + 11) + beside (2 * n))
 
 all-low : (n : ℕ) → n < 252 → ltb (most n) 100000000 ≡ true
 all-low = all-right (λ n. ltb (most n) 100000000) 252 refl
 
 module _ {s : Bytes} {l : Layout} (accepted : Accepted s l) (width : l .width ≡ 8) (short : length s ≤ room) where
-  size : 33 + 65 * l .nodes + l .pool ≤ 16384
+  size : 33 + 65 * l .nodes + l .pool ≤ room
   size =
       let long : length s ≡ 4 * 8 + 1 + (8 * 8 + 1) * l .nodes + (4 * 8 + 1) * l .attributes + l .pool = accepted .sized .size ∙ ap (λ (w : ℕ). 4 * w + 1 + (8 * w + 1) * l .nodes + (4 * w + 1) * l .attributes + l .pool) width in
       omega (arith, long, short)
 
   need-low : (2 * l .nodes + 1) * writtenBy l < 100000000
   need-low =
-      let less : writtenBy l ≤ 6 * (6 * (16351 - 65 * l .nodes) + 11) + (20 * (2 * l .nodes) + 6227) = omega (arith, size) in
+      let less : writtenBy l ≤ 6 * (6 * (16351 - 65 * l .nodes) + 11) + beside (2 * l .nodes) = omega (arith, size) in
       lt-of-le-of-lt (mul-le-mul-left (2 * l .nodes + 1) less) (ltb-true (most (l .nodes)) 100000000 (all-low (l .nodes) (omega (arith, size))))
 
   bounded-fits : {a : Answer} → AnswerBounded l room a → NumbersFit a
