@@ -21,6 +21,7 @@ use Rattle.sheet.specs.declared.field.Field.{Field}
 use Rattle.sheet.specs.declared.field.Field.the-variants.{Number, Bad}
 use Rattle.sheet.specs.declared.line.Layout.{Layout}
 use Rattle.sheet.proofs.ColumnsLaws.{field-below}
+use Rattle.sheet.proofs.ReadingColumns.{ten-positive}
 
 module _ {s : Bytes} {l : Layout} (sized : Sized s l) where
   pub node-fits : (i : ℕ) → i < l .nodes → nodeStart l i + nodeLength (l .width) ≤ length s
@@ -65,10 +66,13 @@ small-in : (f : Field) (k : ℕ) → 0 < k → ((n : ℕ) → f ≡ Number n →
 small-in (Number n) k p h = h n refl
 small-in Bad k p h = p
 
-pub number-below : (w : ℕ) (s : Bytes) (at : ℕ) → w ≤ 10 → numberAt w s at < 10 ^ 10
+pub number-small : (w : ℕ) (s : Bytes) (at : ℕ) → numberAt w s at < 10 ^ w
 unfolding fieldAt
-number-below w s at h =
-    small-in (fieldOf (take w (drop at s))) (10 ^ 10) (lit< tt) (field-below (take w (drop at s)) 10 (simp length-take (omega arith)))
+number-small w s at =
+    small-in (fieldOf (take w (drop at s))) (10 ^ w) (ten-positive w) (field-below (take w (drop at s)) w (simp length-take (omega arith)))
+
+pub number-below : (w : ℕ) (s : Bytes) (at : ℕ) → w ≤ 10 → numberAt w s at < 10 ^ 10
+number-below w s at h = omega (arith, number-small w s at, pow-le-pow-right {n = 10} (lit< tt) h)
 
 -- ---- the column of depths
 

@@ -5,14 +5,14 @@ use Prim.Native.Nat.{ℕ, zero, suc, _+_, _-_, _*_, _^_, _≤_, _<_}
 use native.Mathlib.Nat.{mul-le-mul-left, mul-le-mul-right, suc-mul}
 use native.Mathlib.Omega.{arith}
 use lib.Dec.{eqb}
-use lib.ListN.{length, getD, take, drop}
+use lib.ListN.{length, getD, take, drop, length-drop}
 use borrow.Author.Tests.{eqb-true}
 use Rattle.common.specs.Bytes.{Bytes}
 use Rattle.common.proofs.Choice.{absurd-test, and-parts}
 use Rattle.common.proofs.Parts.{part-length}
 use Rattle.sheet.specs.Accepted.{Line}
 use Rattle.sheet.specs.Columns.{columns}
-use Rattle.sheet.specs.Layout.{nodeLength, attributeLength, nodeStart, attributeStart, poolStart}
+use Rattle.sheet.specs.Layout.{nodeLength, attributeLength, nodeStart, attributeStart, poolStart, poolOf}
 use Rattle.sheet.specs.Lines.{isNumber, fieldAt, numbersRight, after, lineRight}
 use Rattle.sheet.specs.Notes.{Lined}
 use Rattle.sheet.specs.Verdict.{nodeFormat, attributeFormat}
@@ -60,6 +60,9 @@ module _ {s : Bytes} {l : Layout} (lined : Lined s l) where
 
   pub pool-from : length s - l .pool ≡ poolStart l
   pool-from = omega (arith, lined .size)
+
+  pub pool-length : length (poolOf s l) ≡ l .pool
+  pool-length = length-drop (poolStart l) s ∙ omega (arith, lined .size)
 
   pub node-line : (i : ℕ) → i < l .nodes → Line (l .width) s (nodeStart l i) 8
   unfolding nodeFormat

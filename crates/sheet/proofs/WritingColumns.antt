@@ -1,6 +1,6 @@
 -- Numbers are written in columns from the right, and a line of them from the left.
 use mathlib.Core.Path.{_≡_, refl, sym, ap, subst, _∙_}
-use mathlib.Core.List.{List, [], _∷_, _++_}
+use mathlib.Core.List.{List, [], _∷_, _++_, append-assoc}
 use Prim.Native.Nat.{ℕ, zero, suc, _+_, _-_, _*_, _/_, _%_, _≤_, _<_}
 use native.Mathlib.Numerals.{add-one}
 use native.Mathlib.Omega.{arith}
@@ -11,7 +11,7 @@ use Rattle.common.specs.Bytes.{Bytes}
 use Rattle.common.specs.Puts.{Puts}
 use Rattle.common.proofs.Puts.{sets-append, puts-none, puts-then, puts-length}
 use Rattle.sheet.specs.Columns.{columns}
-use Rattle.sheet.specs.Writing.{front, columnOf, line, quadLine}
+use Rattle.sheet.specs.Writing.{front, columnOf, fourColumns, line, quadLine}
 use Rattle.sheet.specs.declared.line.Quad.{Quad}
 
 -- ---- lengths
@@ -100,15 +100,26 @@ module _ (w n : ℕ) where
   pub number-past : {before after : Bytes} {at past : ℕ} → Puts before at (columns w n) after past → (past ≡ at + w) × (length after ≡ length before)
   number-past p = (omega (arith, p .place, columns-length w n), puts-length p)
 
-pub line-put : (w : ℕ) (q : Quad) {s0 s1 s2 s3 s4 s5 : Bytes} {at a1 a2 a3 a4 past : ℕ}
-    → Puts s0 at (columns w (q .first)) s1 a1
-    → Puts s1 a1 (columns w (q .second)) s2 a2
-    → Puts s2 a2 (columns w (q .third)) s3 a3
-    → Puts s3 a3 (columns w (q .fourth)) s4 a4
-    → Puts s4 a4 (10 ∷ []) s5 past
-    → Puts s0 at (quadLine w q) s5 past
-unfolding line
-line-put w q p1 p2 p3 p4 p5 = puts-then p1 (puts-then p2 (puts-then p3 (puts-then p4 p5)))
+module _ (w : ℕ) (q : Quad) where
+  pub four-put : {s0 s1 s2 s3 s4 : Bytes} {at a1 a2 a3 a4 : ℕ}
+      → Puts s0 at (columns w (q .first)) s1 a1
+      → Puts s1 a1 (columns w (q .second)) s2 a2
+      → Puts s2 a2 (columns w (q .third)) s3 a3
+      → Puts s3 a3 (columns w (q .fourth)) s4 a4
+      → Puts s0 at (fourColumns w q) s4 a4
+  unfolding fourColumns
+  four-put p1 p2 p3 p4 = puts-then p1 (puts-then p2 (puts-then p3 p4))
+
+  four-length : length (fourColumns w q) ≡ 4 * w
+  unfolding fourColumns
+  four-length = simp (length-append, columns-length) (omega arith)
+
+  pub four-past : {before after : Bytes} {at past : ℕ} → Puts before at (fourColumns w q) after past → (past ≡ at + 4 * w) × (length after ≡ length before)
+  four-past p = (omega (arith, p .place, four-length), puts-length p)
+
+  pub line-put : {s0 s1 s2 : Bytes} {at end past : ℕ} → Puts s0 at (fourColumns w q) s1 end → Puts s1 end (10 ∷ []) s2 past → Puts s0 at (quadLine w q) s2 past
+  unfolding fourColumns line
+  line-put p e = simp append-assoc at (puts-then p e)
 
 pub line-length : (w : ℕ) (ns : List ℕ) → length (line w ns) ≡ length ns * w + 1
 unfolding line

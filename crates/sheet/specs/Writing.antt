@@ -16,6 +16,10 @@ front w q = elim q [ zero ↦ replicate w 32 | suc m ↦ columns w (suc m) ]
 abbrev pub columnOf : ℕ → ℕ
 columnOf q = cond (eqb q 0) 32 (48 + q % 10)
 
+-- four numbers in w columns each, with no line end
+unfoldable pub fourColumns : ℕ → Quad → Bytes
+fourColumns w q = columns w (q .first) ++ (columns w (q .second) ++ (columns w (q .third) ++ columns w (q .fourth)))
+
 -- numbers in w columns each, and LF
 unfoldable pub line : ℕ → List ℕ → Bytes
 line w [] = 10 ∷ []

@@ -6,24 +6,21 @@ use Prim.Native.Nat.{ℕ, zero, suc, _+_, _*_, _^_, _≤_, _<_}
 use native.Mathlib.Nat.{mul-le-mul-left, mul-suc, zero-add}
 use native.Mathlib.Omega.{arith}
 use lib.Dec.{eqb}
-use lib.ListN.{length, getD, take, drop, length-take, length-drop, take-append-drop}
+use lib.ListN.{getD, take, drop, take-append-drop}
 use Rattle.common.specs.Bytes.{Bytes}
 use Rattle.common.proofs.Choice.{absurd-test, and-parts}
 use Rattle.sheet.specs.Columns.{fieldOf}
-use Rattle.sheet.specs.Layout.{noRow, noAttribute, nodeStart, attributeStart, poolStart, layoutOf, rowAt, attributeAt}
-use Rattle.sheet.specs.Lines.{numberIn, fieldAt, numberAt, numbersRight, after, lineRight, quadFrom}
+use Rattle.sheet.specs.Layout.{noRow, noAttribute, nodeStart, attributeStart, layoutOf, rowAt, attributeAt, poolOf}
+use Rattle.sheet.specs.Lines.{fieldAt, numbersRight, after, lineRight, quadFrom}
 use Rattle.sheet.specs.Notes.{Lined}
 use Rattle.sheet.specs.Verdict.{nodeFormat, attributeFormat}
 use Rattle.sheet.specs.Writing.{line}
-use Rattle.sheet.specs.declared.field.Field.{Field}
-use Rattle.sheet.specs.declared.field.Field.the-variants.{Number, Bad}
 use Rattle.sheet.specs.declared.line.Attribute.{Attribute}
 use Rattle.sheet.specs.declared.line.Layout.{Layout}
 use Rattle.sheet.specs.declared.line.Row.{Row}
-use Rattle.sheet.proofs.ColumnsLaws.{field-below}
 use Rattle.sheet.proofs.FirstWrong.{all-right}
-use Rattle.sheet.proofs.LayoutLaws.{row-there, attribute-there}
-use Rattle.sheet.proofs.ReadingColumns.{ten-positive}
+use Rattle.sheet.proofs.LayoutLaws.{number-small, row-there, attribute-there}
+use Rattle.sheet.proofs.LinedLaws.{pool-length}
 use Rattle.sheet_form.specs.Decoded.{rowNumbers, attributeNumbers, headerNumbers, layoutFor}
 use Rattle.sheet_form.specs.Encoding.{lines, encode, listed, decode, Below, none, some, Fits}
 use Rattle.sheet_form.specs.Theorems.{OfLined}
@@ -31,14 +28,6 @@ use Rattle.sheet_form.proofs.LineBack.{numbersAt, line-form}
 use Rattle.sheet_form.proofs.Lists.{listed-length, listed-at, lines-form}
 
 -- ---- a number that is read has room in its columns
-
-small-in : (x : Field) (k : ℕ) → 0 < k → ((n : ℕ) → x ≡ Number n → n < k) → numberIn x < k
-small-in (Number n) k p h = h n refl
-small-in Bad k p h = p
-
-number-small : (w : ℕ) (s : Bytes) (at : ℕ) → numberAt w s at < 10 ^ w
-unfolding fieldAt
-number-small w s at = small-in (fieldOf (take w (drop at s))) (10 ^ w) (ten-positive w) (field-below (take w (drop at s)) w (simp length-take (omega arith)))
 
 numbers-small : (w : ℕ) (s : Bytes) (at k : ℕ) → Below (10 ^ w) (numbersAt w s at k)
 numbers-small w s at zero = none
@@ -69,12 +58,9 @@ module _ (w : ℕ) (s : Bytes) where
         rw (attribute-there s l j h)
         (line-form w s (attributeStart l j) 4 (omega (arith, lined .size, mul-le-mul-left (4 * w + 1) h)) (all-right (attributeFormat s l) (l .attributes) (lined .formats .of-attributes) j h))
 
-    pool-length : length (drop (poolStart l) s) ≡ l .pool
-    pool-length = length-drop (poolStart l) s ∙ omega (arith, lined .size)
-
     layout-is : layoutFor w (decode l s) ≡ l
     unfolding decode
-    layout-is = rw (listed-length (rowAt s l) 0 (l .nodes), listed-length (attributeAt s l) 0 (l .attributes), pool-length)
+    layout-is = rw (listed-length (rowAt s l) 0 (l .nodes), listed-length (attributeAt s l) 0 (l .attributes), pool-length lined)
 
     header-form : take (4 * w + 1) s ≡ line w (headerNumbers (layoutFor w (decode l s)))
     header-form = line-form w s 0 4 (omega (arith, lined .size)) (lined .header) ∙ ap (λ (k : Layout). line w (headerNumbers k)) (sym layout-is)
@@ -87,7 +73,7 @@ module _ (w : ℕ) (s : Bytes) where
         ∙ lines-form rowNumbers w (8 * w + 1) s (rowAt s l) (nodeStart l) next 0 (l .nodes) (λ j h k. row-form j (omega arith))
         ∙ ap (λ (n : ℕ). lines rowNumbers w (listed (rowAt s l) 0 (l .nodes)) ++ drop (nodeStart l n) s) (zero-add (l .nodes))
 
-    attributes-form : drop (nodeStart l (l .nodes)) s ≡ lines attributeNumbers w (listed (attributeAt s l) 0 (l .attributes)) ++ drop (poolStart l) s
+    attributes-form : drop (nodeStart l (l .nodes)) s ≡ lines attributeNumbers w (listed (attributeAt s l) 0 (l .attributes)) ++ poolOf s l
     attributes-form =
         let start : nodeStart l (l .nodes) ≡ attributeStart l 0 = omega arith in
         let next : (j : ℕ) → attributeStart l (suc j) ≡ attributeStart l j + (4 * w + 1) = λ j. omega (arith, mul-suc (4 * w + 1) j) in

@@ -5,45 +5,27 @@ use Prim.Native.Nat.{ℕ, suc, _+_, _-_, _*_, _≤_, _<_}
 use native.Mathlib.Nat.{add-zero, sub-zero}
 use native.Mathlib.Numerals.{add-one}
 use native.Mathlib.Omega.{arith}
-use lib.ListN.{length, take, drop, length-append, length-drop}
+use lib.ListN.{length, take, drop}
 use lib.Seq.{take-all}
 use Rattle.common.specs.Bytes.{Bytes}
 use Rattle.common.specs.Puts.{Puts}
 use Rattle.common.proofs.Puts.{puts-then, puts-length, Putting, putting-start, putting-more, putting-room, putting-end}
-use Rattle.sheet.specs.Columns.{columns}
-use Rattle.sheet.specs.Layout.{poolStart, rowAt, attributeAt, range}
+use Rattle.sheet.specs.Layout.{poolStart, rowAt, attributeAt, poolOf, range}
 use Rattle.sheet.specs.Notes.{Lined}
-use Rattle.sheet.specs.Writing.{line, quadLine}
+use Rattle.sheet.specs.Writing.{fourColumns, line, quadLine}
 use Rattle.sheet.specs.declared.line.Attribute.{Attribute}
 use Rattle.sheet.specs.declared.line.Layout.{Layout}
 use Rattle.sheet.specs.declared.line.Quad.{Quad}
 use Rattle.sheet.specs.declared.line.Row.{Row}
-use Rattle.sheet.proofs.WritingColumns.{columns-length, line-length}
+use Rattle.sheet.proofs.LinedLaws.{pool-length}
+use Rattle.sheet.proofs.WritingColumns.{line-length}
 use Rattle.sheet_form.specs.Encoding.{lines, encode, listed, decode}
 use Rattle.sheet_form.specs.Decoded.{rowNumbers, attributeNumbers, headerNumbers, layoutFor}
-use Rattle.sheet_form.specs.Writing.{fourColumns}
 use Rattle.sheet_form.proofs.Lists.{listed-length, lines-length}
 
 -- ---- a row
 
 module _ (w : ℕ) where
-  pub four-put : (q : Quad) {s0 s1 s2 s3 s4 : Bytes} {at a1 a2 a3 a4 : ℕ}
-      → Puts s0 at (columns w (q .first)) s1 a1
-      → Puts s1 a1 (columns w (q .second)) s2 a2
-      → Puts s2 a2 (columns w (q .third)) s3 a3
-      → Puts s3 a3 (columns w (q .fourth)) s4 a4
-      → Puts s0 at (fourColumns w q) s4 a4
-  unfolding fourColumns
-  four-put q p1 p2 p3 p4 = puts-then p1 (puts-then p2 (puts-then p3 p4))
-
-  four-length : (q : Quad) → length (fourColumns w q) ≡ 4 * w
-  unfolding fourColumns
-  four-length q =
-      simp (length-append, columns-length) (omega arith)
-
-  pub four-past : (q : Quad) {before after : Bytes} {at past : ℕ} → Puts before at (fourColumns w q) after past → (past ≡ at + 4 * w) × (length after ≡ length before)
-  four-past q p = (omega (arith, p .place, four-length q), puts-length p)
-
   pub row-put : (x y : Quad) {s0 s1 s2 : Bytes} {at middle past : ℕ} → Puts s0 at (fourColumns w x) s1 middle → Puts s1 middle (quadLine w y) s2 past
       → Puts s0 at (line w (x .first ∷ x .second ∷ x .third ∷ x .fourth ∷ y .first ∷ y .second ∷ y .third ∷ y .fourth ∷ [])) s2 past
   unfolding fourColumns line
@@ -104,18 +86,15 @@ module _ (w : ℕ) {before after : Bytes} {at past : ℕ} where
   attributes-past here n p = puts-past _ _ (whole-length attributeNumbers 4 w (λ r. refl) here n) p
 
 module _ {s : Bytes} {l : Layout} (lined : Lined s l) (w : ℕ) where
-  pool-length : length (drop (poolStart l) s) ≡ l .pool
-  pool-length = length-drop (poolStart l) s ∙ omega (arith, lined .size)
-
-  pub pool-range : range s l 0 (l .pool) ≡ drop (poolStart l) s
-  pool-range = ap (λ (p : ℕ). take (l .pool) (drop p s)) (add-zero (poolStart l)) ∙ take-all (l .pool) (drop (poolStart l) s) (omega (arith, pool-length))
+  pub pool-range : range s l 0 (l .pool) ≡ poolOf s l
+  pool-range = ap (λ (p : ℕ). take (l .pool) (drop p s)) (add-zero (poolStart l)) ∙ take-all (l .pool) (poolOf s l) (omega (arith, pool-length lined))
 
   pub part-length : {pool : Bytes} → pool ≡ range s l 0 (l .pool) → length pool ≡ l .pool
-  part-length e = ap length (e ∙ pool-range) ∙ pool-length
+  part-length e = ap length (e ∙ pool-range) ∙ pool-length lined
 
   header-is : line w (headerNumbers l) ≡ line w (headerNumbers (layoutFor w (decode l s)))
   unfolding decode
-  header-is = rw (listed-length (rowAt s l) 0 (l .nodes), listed-length (attributeAt s l) 0 (l .attributes), pool-length)
+  header-is = rw (listed-length (rowAt s l) 0 (l .nodes), listed-length (attributeAt s l) 0 (l .attributes), pool-length lined)
 
   pub sheet-put : {s0 s1 s2 s3 s4 : Bytes} {a1 a2 a3 past : ℕ} {pool : Bytes}
       → Puts s0 0 (line w (headerNumbers l)) s1 a1

@@ -5,7 +5,7 @@ use sheet::line::Quad;
 use sheet::line::Row;
 use sheet::read::attribute_at;
 use sheet::read::row_at;
-use sheet::write::put_columns;
+use sheet::write::put_four;
 use sheet::write::put_short_line;
 ghost use Prim.Native.Nat.{_+_, _*_, _≤_};
 ghost use lib.ListN.{length};
@@ -15,18 +15,7 @@ ghost use Rattle.sheet.specs.Notes.{Lined};
 ghost use Rattle.sheet.specs.Writing.{line};
 ghost use Rattle.sheet_form.specs.Decoded.{attributeNumbers, headerNumbers, rowNumbers};
 ghost use Rattle.sheet_form.specs.Encoding.{decode, encode, lines, listed};
-ghost use Rattle.sheet_form.specs.Writing.{atWidth, fourColumns};
-
-// Four numbers, with no line end.
-fn put_four(out: &mut [u8], at: usize, width: usize, q: Quad) -> usize
-    requires { ⌜ at + 4 * width ≤ length (now out) ⌝ }
-    ensures { λ r. ⌜ Puts (now (out .entry)) at (fourColumns width q) (now (out .exit)) r ⌝ }
-{
-    let at1 = put_columns(out, at, width, q.first);
-    let at2 = put_columns(out, at1, width, q.second);
-    let at3 = put_columns(out, at2, width, q.third);
-    put_columns(out, at3, width, q.fourth)
-}
+ghost use Rattle.sheet_form.specs.Writing.{atWidth};
 
 // The header of a sheet that has l's numbers, at its start.
 pub fn put_header(out: &mut [u8], width: usize, l: Layout) -> usize

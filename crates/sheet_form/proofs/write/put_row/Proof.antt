@@ -1,6 +1,7 @@
 -- `write::put_row` meets its contract.
 use native.Mathlib.Omega.{arith}
-use Rattle.sheet_form.proofs.Writing.{four-past, row-put}
+use Rattle.sheet.proofs.WritingColumns.{four-past}
+use Rattle.sheet_form.proofs.Writing.{row-put}
 use borrow.Author.Needs.{needs}
 use Rattle.sheet_form.proofs.write.put_row.Statement.{statement}
 use Rattle.sheet_form.proofs.write.put_row.Tie as tie

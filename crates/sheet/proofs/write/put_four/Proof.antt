@@ -1,10 +1,9 @@
 -- `write::put_four` meets its contract.
 use native.Mathlib.Omega.{arith}
-use Rattle.sheet.proofs.WritingColumns.{number-past}
-use Rattle.sheet_form.proofs.Writing.{four-put}
+use Rattle.sheet.proofs.WritingColumns.{number-past, four-put}
 use borrow.Author.Needs.{needs}
-use Rattle.sheet_form.proofs.write.put_four.Statement.{statement}
-use Rattle.sheet_form.proofs.write.put_four.Tie as tie
+use Rattle.sheet.proofs.write.put_four.Statement.{statement}
+use Rattle.sheet.proofs.write.put_four.Tie as tie
 
 put-columns-requires : tie.Need-put-columns-requires
 put-columns-requires c κs = search needs
