@@ -3,6 +3,8 @@
 use filters::footer::body_above;
 use filters::main_content::is_main_content;
 use options::ExtractOptions;
+use patterns::masks::Masks;
+use patterns::table::Steps;
 use sheet::line::Layout;
 use walk::cursor::skip;
 ghost use mathlib.Core.Bool.{true, not, _||_};
@@ -22,8 +24,8 @@ ghost use Rattle.left_out.specs.LeftOut.{Fits, LeftOutRows, MarksNoted, 
 
 // Whether row k is left out, with the number of its tag, its first attribute line and its depth below body. `left`: it is a comment or marked.
 fn leaves_out(
-    steps: &[u16; 2059],
-    masks: &[u32; 4352],
+    steps: &Steps,
+    masks: &Masks,
     s: &[u8],
     l: Layout,
     o: ExtractOptions,
@@ -45,8 +47,8 @@ fn leaves_out(
 
 // Row k is decided and entered; the row that is decided next.
 fn decide_row(
-    steps: &[u16; 2059],
-    masks: &[u32; 4352],
+    steps: &Steps,
+    masks: &Masks,
     s: &[u8],
     l: Layout,
     o: ExtractOptions,
@@ -97,8 +99,8 @@ fn enter(depths: &[u16], root: usize, stack: &mut [usize])
 
 // The root and the rows below it; base is the depth of the nearest body above it.
 fn decide_tree(
-    steps: &[u16; 2059],
-    masks: &[u32; 4352],
+    steps: &Steps,
+    masks: &Masks,
     s: &[u8],
     l: Layout,
     o: ExtractOptions,

@@ -29,8 +29,6 @@ ghost use Rattle.sheet.specs.Layout.{mostDepth};
 ghost use Rattle.visits.specs.Visiting.{Noted, Walked};
 ghost use Rattle.writing.specs.Passing.{OpenReady, Opens, PassDoes, PassReady, PassesAll, WriteReady, depthPassesAt, noPass, rowsPassAt};
 
-const TR: u8 = 1;
-
 // Along a pass: the open entry's progress, and of its node what later visits look at. any: whether one is open.
 pub struct OpenEntry {
     pub progress: Progress,
@@ -73,7 +71,7 @@ fn start() -> OpenEntry
         progress,
         depth: 0,
         pre_depth: 0,
-        tag: 0,
+        tag: tags::OTHER,
         any: false,
     }
 }
@@ -95,7 +93,7 @@ fn passes_levels(f: Formatting, v: Visit, depth: usize) -> bool
 fn passes_rows(v: Visit, rows: usize) -> bool
     ensures { λ r. ⌜ r ≡ rowsPassAt v rows ⌝ }
 {
-    if v.tag == TR {
+    if v.tag == tags::TR {
         if v.end {
             return false;
         }
