@@ -4,7 +4,6 @@ use crate::tests::is_bracketed;
 use crate::tests::is_break;
 use crate::tests::is_image;
 use crate::tests::is_link;
-use crate::tests::is_minimal_html;
 use options::ExtractOptions;
 use options::Formatting;
 use serializer::Progress;
@@ -260,7 +259,7 @@ fn add_element(
 fn is_escaped(f: Formatting, current: u8) -> bool
     ensures { λ r. ⌜ r ≡ (isMinimalHtml f && isA current) ⌝ }
 {
-    is_minimal_html(f) && current == tags::A
+    f.is_minimal_html() && current == tags::A
 }
 
 // What a visit to a row without a tag adds: a text, or an element that is not told apart, which has no value and adds nothing.

@@ -4,12 +4,10 @@ use crate::tests::is_big_block;
 use crate::tests::is_block;
 use crate::tests::is_break;
 use crate::tests::is_link;
-use crate::tests::is_minimal_html;
 use crate::tests::is_pre;
 use crate::tests::pushes_after;
 use html2text::ExtractNode;
 use options::ExtractOptions;
-use options::Formatting;
 ghost use mathlib.Core.Bool.{_&&_, not};
 ghost use mathlib.Core.Path.{_≡_};
 ghost use Prim.Native.Nat.{_<_};
@@ -43,7 +41,7 @@ fn pushed_node(o: ExtractOptions, before: usize, v: Visit) -> ExtractNode
     let depth = pre_depth(v.tag, v.end, before);
     let block = is_block(v.tag);
     let big_block = is_big_block(v.tag);
-    let escape = is_minimal_html(f);
+    let escape = f.is_minimal_html();
     ExtractNode {
         tag: v.tag,
         has_children: v.children,
@@ -67,7 +65,7 @@ fn is_link_tag(o: ExtractOptions, tag: u8) -> bool
     ensures { λ r. ⌜ r ≡ (isMinimalHtml (o .formatting) && isLink o tag) ⌝ }
 {
     let f = o.formatting;
-    is_minimal_html(f) && is_link(o, tag)
+    f.is_minimal_html() && is_link(o, tag)
 }
 
 // What a br and a link set in the current entry.

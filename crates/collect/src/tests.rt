@@ -1,31 +1,9 @@
 // The tests of `collect`, on options and on the number of a tag (crates/tags).
 use options::ExtractOptions;
-use options::Formatting;
 ghost use mathlib.Core.Bool.{_&&_, _||_};
 ghost use mathlib.Core.Path.{_≡_};
 ghost use Rattle.html2text.specs.Collect.{isBreak, isLink, pushesAfter};
-ghost use Rattle.options.specs.Options.{isBasic, isMinimalHtml};
 ghost use Rattle.tags.specs.Tags.{isBigBlock, isBlockTag, isButton, isCell, isImage, isPre, isTextarea};
-
-pub fn is_minimal_html(f: Formatting) -> bool
-    ensures { λ r. ⌜ r ≡ isMinimalHtml f ⌝ }
-{
-    match f {
-        Formatting::Off => false,
-        Formatting::Basic => false,
-        Formatting::MinimalHtml => true,
-    }
-}
-
-fn is_basic(f: Formatting) -> bool
-    ensures { λ r. ⌜ r ≡ isBasic f ⌝ }
-{
-    match f {
-        Formatting::Off => false,
-        Formatting::Basic => true,
-        Formatting::MinimalHtml => false,
-    }
-}
 
 // The names of blocks are TR and UL to TABLE.
 pub fn is_block(tag: u8) -> bool
@@ -69,7 +47,7 @@ pub fn is_break(o: ExtractOptions, tag: u8) -> bool
     ensures { λ r. ⌜ r ≡ isBreak o tag ⌝ }
 {
     let f = o.formatting;
-    is_basic(f) && tag == tags::BR
+    f.is_basic() && tag == tags::BR
 }
 
 // `opts.links && name == "a"`

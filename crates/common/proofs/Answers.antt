@@ -10,10 +10,11 @@ use borrow.Author.Tests.{lt-ltb, le-ltb}
 use Rattle.common.specs.Answer.{Answer, refused, written, capped, writtenIn, outAfter}
 use Rattle.common.specs.Bytes.{Bytes}
 use Rattle.common.specs.Puts.{Puts}
+use Rattle.common.specs.Refusals.{outTooShort}
 use Rattle.common.proofs.Puts.{puts-padded}
 
 module _ (text out : Bytes) where
-  pub answer-too-short : {need : ℕ} → need ≡ capped (length text) → length out < need → (refused 32 need ≡ writtenIn text (length out)) × (out ≡ outAfter text out)
+  pub answer-too-short : {need : ℕ} → need ≡ capped (length text) → length out < need → (refused outTooShort need ≡ writtenIn text (length out)) × (out ≡ outAfter text out)
   answer-too-short e h = let t = lt-ltb (length out) (length text) (omega (arith, e)) in (rw (t, e), rw t)
 
   pub answer-fits : {need : ℕ} → need ≡ capped (length text) → need ≤ length out → length out < 2 ^ 64 - 1 → length text ≤ length out

@@ -3,6 +3,7 @@ ghost use mathlib.Core.List.{_++_};
 ghost use mathlib.Core.Path.{_≡_};
 ghost use Prim.Native.Nat.{_+_, _-_, _<_, _≤_};
 ghost use lib.ListN.{drop, length, replicate, take};
+ghost use Rattle.common.specs.Answer.{accepted, refused};
 ghost use Rattle.common.specs.Bytes.{same};
 ghost use Rattle.common.specs.Puts.{Puts};
 ghost use Rattle.common.specs.Word.{wordAt};
@@ -14,6 +15,64 @@ pub struct Answer {
     pub second: usize,
     pub visits: usize,
     pub length: usize,
+}
+
+// The number of each refusal has the name that it has in include/levzhada.h.
+impl Answer {
+    // The sheet is wrong.
+    pub const WRONG_LENGTH: usize = 11;
+
+    pub const WRONG_FORMAT: usize = 12;
+
+    pub const WRONG_COUNTS: usize = 13;
+
+    pub const WRONG_TREE: usize = 14;
+
+    pub const WRONG_KIND: usize = 15;
+
+    pub const WRONG_RANGE: usize = 16;
+
+    pub const NOT_UTF8: usize = 17;
+
+    // The page is past a limit.
+    pub const TOO_MANY_LIST_LEVELS: usize = 21;
+
+    pub const TOO_MANY_OPEN_ROWS: usize = 22;
+
+    // What the call was given beside the sheet is too short, wrong or not there.
+    pub const WORK_TOO_SHORT: usize = 31;
+
+    pub const OUT_TOO_SHORT: usize = 32;
+
+    pub const WRONG_OPTIONS: usize = 33;
+
+    pub const INPUT_TOO_LONG: usize = 34;
+
+    pub const NO_ROW: usize = 35;
+
+    pub const NO_PATTERN: usize = 36;
+
+    pub fn refused(number: usize, second: usize) -> Answer
+        ensures { λ r. ⌜ r ≡ refused number second ⌝ }
+    {
+        Answer {
+            number,
+            second,
+            visits: 0,
+            length: 0,
+        }
+    }
+
+    pub fn accepted(second: usize, visits: usize, length: usize) -> Answer
+        ensures { λ r. ⌜ r ≡ accepted second visits length ⌝ }
+    {
+        Answer {
+            number: 0,
+            second,
+            visits,
+            length,
+        }
+    }
 }
 
 // A text of so many bytes is written, or the lent buffer is shorter than the need.

@@ -6,8 +6,8 @@ use Prim.Native.String.{String}
 use lib.Dec.{T}
 use lib.ListN.{getD, length}
 use Rattle.common.specs.Bytes.{Bytes, codes, same}
+use Rattle.options.specs.Options.{standing, withMainContent, withComments, withPostMeta, withHiddenElements, withIcons}
 use Rattle.options.specs.declared.ExtractOptions.{ExtractOptions}
-use Rattle.options.specs.declared.Formatting.the-variants.{Basic}
 use Rattle.tree.specs.Node.{Kind, element, text, comment, Attribute, Node}
 use Rattle.tree.specs.Page.{Page}
 use Rattle.filters.specs.Filters.{filtered}
@@ -39,10 +39,10 @@ pageOf rows root = record { depths = map (λ (r : ℕ × Node). r .0) rows; node
 
 -- main_content with the other standing options, and with none of them
 abbrev pub main : ExtractOptions
-main = record { formatting = Basic; «main_content» = true; «list_bullets» = true; «alt_texts» = true; links = false; «form_fields» = false; comments = true; «post_meta» = true; «hidden_elements» = false; icons = false }
+main = withMainContent true standing
 
 abbrev pub strict : ExtractOptions
-strict = record { formatting = Basic; «main_content» = true; «list_bullets» = true; «alt_texts» = true; links = false; «form_fields» = false; comments = false; «post_meta» = false; «hidden_elements» = true; icons = true }
+strict = withComments false (withPostMeta false (withHiddenElements true (withIcons true main)))
 
 -- of the rows from row i on, those that are filtered out
 unfoldable pub filteredFrom : Page → ExtractOptions → ℕ → ℕ → List ℕ

@@ -4,7 +4,9 @@ use mathlib.Core.Bool.{Bool, true, false, _&&_, _||_, not, or-true}
 use mathlib.Core.List.{[]}
 use Prim.Native.Nat.{ℕ}
 use Rattle.common.specs.Bytes.{Bytes}
+use Rattle.options.specs.Options.{withFormatting}
 use Rattle.options.specs.declared.ExtractOptions.{ExtractOptions}
+use Rattle.options.specs.declared.Formatting.{Formatting}
 use Rattle.options.specs.declared.Formatting.the-variants.{Off}
 use Rattle.text.specs.Text.{isSpace, struck}
 use Rattle.text.proofs.StruckLaws.{struck-rstrip}
@@ -25,8 +27,7 @@ use Rattle.common.proofs.TestLaws.{or-left}
 use Rattle.html2text.proofs.Standing.{page-parents, page-cells}
 
 off-same : (o : ExtractOptions) → o .formatting ≡ Off → o ≡ off o
-off-same o e =
-    λ i. record { formatting = e i; «main_content» = o .«main_content»; «list_bullets» = o .«list_bullets»; «alt_texts» = o .«alt_texts»; links = o .links; «form_fields» = o .«form_fields»; comments = o .comments; «post_meta» = o .«post_meta»; «hidden_elements» = o .«hidden_elements»; icons = o .icons }
+off-same o e = ap (λ (f : Formatting). withFormatting f o) e
 
 -- marked or filtered out in the second page: in the first, or a further mark
 marks-further : (m m′ f : Bool) → (m ≡ true → m′ ≡ true) → (m′ || f) ≡ ((m || f) || (m′ && not m))

@@ -8,6 +8,7 @@ use lib.Dec.{eqb}
 use lib.ListN.{length, getD}
 use Rattle.common.specs.Bytes.{Bytes, isEmpty}
 use Rattle.common.proofs.Choice.{by-cond}
+use Rattle.options.specs.Options.{withFormatting}
 use Rattle.options.specs.declared.ExtractOptions.{ExtractOptions}
 use Rattle.options.specs.declared.Formatting.the-variants.{Off}
 use Rattle.tags.specs.Tags.{isTr, isCell}
@@ -26,8 +27,7 @@ use Rattle.html2text.proofs.RunLaws.{serialized-from, serialized-start}
 
 -- the options with formatting Off
 abbrev pub off : ExtractOptions → ExtractOptions
-off o =
-    record { formatting = Off; «main_content» = o .«main_content»; «list_bullets» = o .«list_bullets»; «alt_texts» = o .«alt_texts»; links = o .links; «form_fields» = o .«form_fields»; comments = o .comments; «post_meta» = o .«post_meta»; «hidden_elements» = o .«hidden_elements»; icons = o .icons }
+off = withFormatting Off
 
 abbrev pub isCellEnd : ExtractNode → Bool
 isCellEnd n = isCell (n .tag) && n .end

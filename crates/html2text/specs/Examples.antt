@@ -5,9 +5,9 @@ use Prim.Native.Nat.{ℕ}
 use Prim.Native.String.{String}
 use lib.Dec.{T, eqb}
 use lib.ListN.{length, getD, replicate}
-use Rattle.common.specs.Answer.{Answer, refused}
+use Rattle.common.specs.Answer.{Answer, refused, accepted}
 use Rattle.common.specs.Bytes.{Bytes, codes, same}
-use Rattle.options.specs.Options.{standing}
+use Rattle.options.specs.Options.{standing, withFormatting, withMainContent, withListBullets, withAltTexts, withLinks, withFormFields}
 use Rattle.options.specs.declared.ExtractOptions.{ExtractOptions}
 use Rattle.options.specs.declared.Formatting.{Formatting}
 use Rattle.options.specs.declared.Formatting.the-variants.{Off, Basic, MinimalHtml}
@@ -49,27 +49,23 @@ page rows marks root =
 
 -- ---- the standing options but for formatting and one more
 
-abbrev pub options : Formatting → Bool → Bool → Bool → Bool → Bool → ExtractOptions
-options f main bullets alt links fields =
-    record { formatting = f; «main_content» = main; «list_bullets» = bullets; «alt_texts» = alt; links = links; «form_fields» = fields; comments = true; «post_meta» = true; «hidden_elements» = false; icons = false }
-
 abbrev pub formatted : Formatting → ExtractOptions
-formatted f = options f false true true false false
+formatted f = withFormatting f standing
 
 abbrev pub linked : Formatting → ExtractOptions
-linked f = options f false true true true false
+linked f = withLinks true (formatted f)
 
 abbrev pub fielded : Formatting → ExtractOptions
-fielded f = options f false true true false true
+fielded f = withFormFields true (formatted f)
 
 abbrev pub unbulleted : Formatting → ExtractOptions
-unbulleted f = options f false false true false false
+unbulleted f = withListBullets false (formatted f)
 
 abbrev pub unalternated : Formatting → ExtractOptions
-unalternated f = options f false true false false false
+unalternated f = withAltTexts false (formatted f)
 
 abbrev pub main : ExtractOptions
-main = options Basic true true true false false
+main = withMainContent true standing
 
 -- no row is filtered out
 abbrev pub none : ℕ → Bool
@@ -284,15 +280,15 @@ short = page ((0, plain "body") ∷ (1, words "a  b   ") ∷ []) [] 0
 
 unfoldable pub calls : List Call
 calls =
-    call standing short (1 ∷ 2 ∷ 3 ∷ 4 ∷ 5 ∷ []) (replicate 8 9) (record { number = 0; second = 0; visits = 3; length = 3 }) (0x61 ∷ 0x20 ∷ 0x62 ∷ 0 ∷ 0 ∷ []) (replicate 8 0)
+    call standing short (1 ∷ 2 ∷ 3 ∷ 4 ∷ 5 ∷ []) (replicate 8 9) (accepted 0 3 3) (0x61 ∷ 0x20 ∷ 0x62 ∷ 0 ∷ 0 ∷ []) (replicate 8 0)
     -- each need is enough, and one less is not; 31 is tested first
-    ∷ call standing short (replicate 4 1) (replicate 7 9) (record { number = 0; second = 0; visits = 3; length = 3 }) (0x61 ∷ 0x20 ∷ 0x62 ∷ 0 ∷ []) (replicate 7 0)
+    ∷ call standing short (replicate 4 1) (replicate 7 9) (accepted 0 3 3) (0x61 ∷ 0x20 ∷ 0x62 ∷ 0 ∷ []) (replicate 7 0)
     ∷ call standing short (replicate 3 1) (replicate 7 9) (refused 32 4) (replicate 3 1) (replicate 7 0)
     ∷ call standing short (replicate 4 1) (replicate 6 9) (refused 31 7) (replicate 4 1) (replicate 6 9)
     ∷ call standing short [] [] (refused 31 7) [] []
     -- the 1,025th list level is refused; formatting Off never counts them
     ∷ call standing (childless 1025 "ul") [] [] (refused 21 1026) [] []
-    ∷ call (formatted Off) (childless 1025 "ul") [] [] (record { number = 0; second = 0; visits = 1027; length = 0 }) [] []
+    ∷ call (formatted Off) (childless 1025 "ul") [] [] (accepted 0 1027 0) [] []
     -- the 1,025th open row is refused
     ∷ call (formatted Off) (childless 1025 "tr") (replicate 2 1) (replicate 2 9) (refused 22 1026) (replicate 2 1) (replicate 2 9)
     ∷ []
@@ -329,9 +325,9 @@ areSheetsRight (c ∷ cs) = isSheetRight c && areSheetsRight cs
 unfoldable pub sheets : List SheetCall
 sheets =
     -- document 01's input of the program
-    onBytes standing "       2       0       6       0\n       0       1       0       0       4       0       0       0\n       1       3       0       0       0       4       2       0\nbodyhi" (replicate 3 1) (replicate 2 9) (record { number = 0; second = 0; visits = 3; length = 2 }) (0x68 ∷ 0x69 ∷ 0 ∷ []) (replicate 2 0)
+    onBytes standing "       2       0       6       0\n       0       1       0       0       4       0       0       0\n       1       3       0       0       0       4       2       0\nbodyhi" (replicate 3 1) (replicate 2 9) (accepted 0 3 2) (0x68 ∷ 0x69 ∷ 0 ∷ []) (replicate 2 0)
     -- its text marked: row 1 is reached, and has no entry
-    ∷ onBytes standing "       2       0       6       0\n       0       1       0       0       4       0       0       0\n       1       3       1       0       0       4       2       0\nbodyhi" (replicate 3 1) (replicate 2 9) (record { number = 0; second = 0; visits = 3; length = 0 }) (replicate 3 0) (replicate 2 0)
+    ∷ onBytes standing "       2       0       6       0\n       0       1       0       0       4       0       0       0\n       1       3       1       0       0       4       2       0\nbodyhi" (replicate 3 1) (replicate 2 9) (accepted 0 3 0) (replicate 3 0) (replicate 2 0)
     -- one byte short
     ∷ onBytes standing "       2       0       6       0\n       0       1       0       0       4       0       0       0\n       1       3       0       0       0       4       2       0\nbodyh" (replicate 3 1) (replicate 2 9) (refused 11 169) (replicate 3 1) (replicate 2 9)
     ∷ []

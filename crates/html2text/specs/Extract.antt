@@ -5,8 +5,9 @@ use mathlib.Core.List.{List, [], _∷_}
 use Prim.Native.Nat.{ℕ, zero, suc, _+_}
 use lib.Dec.{leb, ltb}
 use lib.ListN.{length}
-use Rattle.common.specs.Answer.{Answer, refused}
+use Rattle.common.specs.Answer.{Answer, refused, accepted}
 use Rattle.common.specs.Bytes.{Bytes, codes, padded}
+use Rattle.common.specs.Refusals.{tooManyListLevels, tooManyOpenRows, workTooShort, outTooShort}
 use Rattle.options.specs.Options.{isOff}
 use Rattle.options.specs.declared.ExtractOptions.{ExtractOptions}
 use Rattle.options.specs.declared.Formatting.{Formatting}
@@ -142,12 +143,12 @@ module _ (filtered : ℕ → Bool) (p : Page) (o : ExtractOptions) where
 
 -- the numbers of each case: number, second number, visits, length
 abbrev pub numbers : Extraction → Answer
-numbers (Text passes len) = record { number = 0; second = 0; visits = passes; length = len }
+numbers (Text passes len) = accepted 0 passes len
 numbers (Refused v) = sheet-verdict.numbers v
-numbers (ListLevels line) = refused 21 line
-numbers (OpenRows line) = refused 22 line
-numbers (WorkTooShort need) = refused 31 need
-numbers (OutTooShort need) = refused 32 need
+numbers (ListLevels line) = refused tooManyListLevels line
+numbers (OpenRows line) = refused tooManyOpenRows line
+numbers (WorkTooShort need) = refused workTooShort need
+numbers (OutTooShort need) = refused outTooShort need
 
 -- ---- of a byte string: the sheet's refusals come first, and change neither buffer
 -- `filters` says which rows `is_main_content` leaves out, by the rows, their depths, the root and the options: it is given no marks

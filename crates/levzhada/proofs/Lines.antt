@@ -4,6 +4,7 @@ use Prim.Native.Nat.{ℕ}
 use lib.ListN.{length}
 use Rattle.common.specs.Answer.{Answer, refused}
 use Rattle.common.specs.Bytes.{Bytes}
+use Rattle.common.specs.Refusals.{wrongOptions}
 use Rattle.html2text.specs.Extract as extract
 use Rattle.html2text.specs.declared.Extraction.{Extraction}
 use Rattle.options.specs.Line.{lineOf}
@@ -19,6 +20,6 @@ module _ (s line out work : Bytes) where
       → (a ≡ extractNumbers s line (length out) (length work)) × (out′ ≡ extractOut s line out work) × (work′ ≡ extractWork s line work)
   by-line l n x = (rw (← l) (n ∙ ap extract.numbers (x .0)), rw (← l) (x .1), rw (← l) (x .2))
 
-  pub wrong-line : {a : Answer} → Wrong ≡ lineOf line → a ≡ refused 33 0
+  pub wrong-line : {a : Answer} → Wrong ≡ lineOf line → a ≡ refused wrongOptions 0
       → (a ≡ extractNumbers s line (length out) (length work)) × (out ≡ extractOut s line out work) × (work ≡ extractWork s line work)
   wrong-line l n = (rw (← l) n, rw (← l), rw (← l))

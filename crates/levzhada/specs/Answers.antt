@@ -17,6 +17,7 @@ use Rattle.levzhada.specs.declared.LinkMeasure.{LinkMeasure}
 use Rattle.levzhada.specs.declared.Range.{Range}
 use Rattle.common.specs.Answer.{Answer, refused}
 use Rattle.common.specs.Bytes.{Bytes}
+use Rattle.common.specs.Refusals.{wrongOptions}
 use Rattle.html2text.specs.Extract as extract
 use Rattle.options.specs.Line.{lineOf}
 use Rattle.options.specs.declared.ExtractOptions.{ExtractOptions}
@@ -79,7 +80,7 @@ onLine f wrong (Options o) = f o
 onLine f wrong Wrong = wrong
 
 abbrev pub extractNumbers : Bytes → Bytes → ℕ → ℕ → Answer
-extractNumbers s line out work = onLine (λ o. extract.numbers (extractionOf s o out work)) (refused 33 0) (lineOf line)
+extractNumbers s line out work = onLine (λ o. extract.numbers (extractionOf s o out work)) (refused wrongOptions 0) (lineOf line)
 
 abbrev pub extractOut : Bytes → Bytes → Bytes → Bytes → Bytes
 extractOut s line out work = onLine (λ o. outAfterOf s o out work) out (lineOf line)

@@ -12,7 +12,6 @@ use numbers::of_measure;
 use numbers::of_relative;
 use numbers::of_verdict;
 use numbers::of_written;
-use numbers::refused;
 use options::line::OptionLine;
 use options::line::read_line;
 use reader::attribute_of;
@@ -77,7 +76,7 @@ pub extern "C" fn levzhada_extract(
     ensures cleared { λ r. ⌜ now (work .exit) ≡ extractWork (now (sheet .entry)) (now (options .entry)) (now (work .entry)) ⌝ }
 {
     let OptionLine::Options(o) = read_line(options) else {
-        return refused(33, 0);
+        return Answer::refused(Answer::WRONG_OPTIONS, 0);
     };
     of_extraction(extract(sheet, o, out, work))
 }

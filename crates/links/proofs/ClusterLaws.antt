@@ -8,6 +8,7 @@ use lib.Dec.{ltb, eqb}
 use borrow.Author.Tests.{lt-ltb, eq-eqb, ne-eqb}
 use Rattle.common.specs.Answer.{Answer, refused}
 use Rattle.common.specs.Bytes.{Bytes}
+use Rattle.common.specs.Refusals.{noRow}
 use Rattle.common.proofs.Choice.{by-test}
 use Rattle.sheet.specs.Layout.{mostRows, rowAt, depths}
 use Rattle.sheet.specs.declared.line.Layout.{Layout}
@@ -68,7 +69,7 @@ module _ (s : Bytes) (row : ℕ) (rule : Rule) where
   unfolding measureAnswerOf measureNumbers
   numbers-is = asked-by-sheet s row (λ x. numbers (measureTo s row rule x)) (λ l. at (measureAt s l rule row) (eqb (rowAt s l row .kind) 1)) refl (λ v. refl)
     where
-      at : (m : Measure) (b : Bool) → numbers (elim b [ true ↦ Measured m | false ↦ NoElement row ]) ≡ elim b [ true ↦ outcomeNumbers m | false ↦ refused 35 row ]
+      at : (m : Measure) (b : Bool) → numbers (elim b [ true ↦ Measured m | false ↦ NoElement row ]) ≡ elim b [ true ↦ outcomeNumbers m | false ↦ refused noRow row ]
       at m true = refl
       at m false = refl
 

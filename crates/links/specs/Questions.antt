@@ -4,8 +4,9 @@ use mathlib.Core.List.{List, [], _∷_}
 use Prim.Native.Nat.{ℕ}
 use lib.Dec.{eqb}
 use lib.Ieee.{binary64, toBits}
-use Rattle.common.specs.Answer.{Answer, refused}
+use Rattle.common.specs.Answer.{Answer, refused, accepted}
 use Rattle.common.specs.Bytes.{Bytes}
+use Rattle.common.specs.Refusals.{noRow}
 use Rattle.sheet.specs.Layout.{rowAt, depths}
 use Rattle.sheet.specs.Verdict as verdict
 use Rattle.sheet.specs.declared.line.Layout.{Layout}
@@ -42,7 +43,7 @@ outcome (Share share) = 3
 
 -- a measure's numbers: 0 and the outcome; its values: the outcome and, of a share, the bits of the f64
 abbrev pub outcomeNumbers : Measure → Answer
-outcomeNumbers m = record { number = 0; second = outcome m; visits = 0; length = 0 }
+outcomeNumbers m = accepted (outcome m) 0 0
 
 abbrev pub outcomeValues : Measure → List ℕ
 outcomeValues NoText = 0 ∷ []
@@ -53,7 +54,7 @@ outcomeValues (Share share) = 3 ∷ toBits binary64 share ∷ []
 -- the numbers and the values of each case
 abbrev pub numbers : MeasureAnswer → Answer
 numbers (Measured m) = outcomeNumbers m
-numbers (NoElement i) = refused 35 i
+numbers (NoElement i) = refused noRow i
 numbers (Refused v) = verdict.numbers v
 
 abbrev pub values : MeasureAnswer → List ℕ
@@ -64,7 +65,7 @@ values (Refused v) = []
 -- the numbers and the values of the whole answer, by the sheet alone
 unfoldable pub measureNumbers : Bytes → ℕ → Rule → Answer
 measureNumbers s row rule =
-    bySheet (λ l. elim (eqb (rowAt s l row .kind) 1) [ true ↦ outcomeNumbers (measureAt s l rule row) | false ↦ refused 35 row ]) (refused 35 row) verdict.numbers s row
+    bySheet (λ l. elim (eqb (rowAt s l row .kind) 1) [ true ↦ outcomeNumbers (measureAt s l rule row) | false ↦ refused noRow row ]) (refused noRow row) verdict.numbers s row
 
 unfoldable pub measureValues : Bytes → ℕ → Rule → List ℕ
 measureValues s row rule = bySheet (λ l. elim (eqb (rowAt s l row .kind) 1) [ true ↦ outcomeValues (measureAt s l rule row) | false ↦ [] ]) [] (λ v. []) s row

@@ -21,34 +21,12 @@ ghost use Rattle.tree.specs.Attributes as attributes;
 ghost use Rattle.tree.specs.Questions as questions;
 ghost use Rattle.tree.specs.TextLength as lengths;
 
-pub fn refused(number: usize, second: usize) -> Answer
-    ensures { λ r. ⌜ r ≡ common.refused number second ⌝ }
-{
-    Answer {
-        number,
-        second,
-        visits: 0,
-        length: 0,
-    }
-}
-
-fn accepted(second: usize, visits: usize, length: usize) -> Answer
-    ensures { λ r. ⌜ r ≡ record { number = 0; second = second; visits = visits; length = length } ⌝ }
-{
-    Answer {
-        number: 0,
-        second,
-        visits,
-        length,
-    }
-}
-
 pub fn of_written(w: Written) -> Answer
     ensures { λ r. ⌜ r ≡ common.numbers w ⌝ }
 {
     match w {
-        Written::Text(n) => accepted(0, 0, n),
-        Written::TooShort(need) => refused(32, need),
+        Written::Text(n) => Answer::accepted(0, 0, n),
+        Written::TooShort(need) => Answer::refused(Answer::OUT_TOO_SHORT, need),
     }
 }
 
@@ -56,14 +34,14 @@ pub fn of_verdict(v: Verdict) -> Answer
     ensures { λ r. ⌜ r ≡ verdict.numbers v ⌝ }
 {
     match v {
-        Verdict::Sheet(_) => accepted(0, 0, 0),
-        Verdict::Length(n) => refused(11, n),
-        Verdict::Format(line) => refused(12, line),
-        Verdict::Counts => refused(13, 0),
-        Verdict::Tree(line) => refused(14, line),
-        Verdict::Kind(line) => refused(15, line),
-        Verdict::Range(line) => refused(16, line),
-        Verdict::Encoding(line) => refused(17, line),
+        Verdict::Sheet(_) => Answer::accepted(0, 0, 0),
+        Verdict::Length(n) => Answer::refused(Answer::WRONG_LENGTH, n),
+        Verdict::Format(line) => Answer::refused(Answer::WRONG_FORMAT, line),
+        Verdict::Counts => Answer::refused(Answer::WRONG_COUNTS, 0),
+        Verdict::Tree(line) => Answer::refused(Answer::WRONG_TREE, line),
+        Verdict::Kind(line) => Answer::refused(Answer::WRONG_KIND, line),
+        Verdict::Range(line) => Answer::refused(Answer::WRONG_RANGE, line),
+        Verdict::Encoding(line) => Answer::refused(Answer::NOT_UTF8, line),
     }
 }
 
@@ -71,9 +49,9 @@ pub fn of_relative(r: Relative) -> Answer
     ensures { λ a. ⌜ a ≡ questions.numbers r ⌝ }
 {
     match r {
-        Relative::Row(j) => accepted(j, 0, 1),
-        Relative::Nothing => accepted(0, 0, 0),
-        Relative::NoRow(i) => refused(35, i),
+        Relative::Row(j) => Answer::accepted(j, 0, 1),
+        Relative::Nothing => Answer::accepted(0, 0, 0),
+        Relative::NoRow(i) => Answer::refused(Answer::NO_ROW, i),
         Relative::Refused(v) => of_verdict(v),
     }
 }
@@ -82,9 +60,9 @@ pub fn of_attribute(r: AttributeAnswer) -> Answer
     ensures { λ a. ⌜ a ≡ attributes.numbers r ⌝ }
 {
     match r {
-        AttributeAnswer::Absent => accepted(0, 0, 0),
-        AttributeAnswer::At { at: _, len } => accepted(0, 0, len),
-        AttributeAnswer::NoRow(i) => refused(35, i),
+        AttributeAnswer::Absent => Answer::accepted(0, 0, 0),
+        AttributeAnswer::At { at: _, len } => Answer::accepted(0, 0, len),
+        AttributeAnswer::NoRow(i) => Answer::refused(Answer::NO_ROW, i),
         AttributeAnswer::Refused(v) => of_verdict(v),
     }
 }
@@ -93,8 +71,8 @@ pub fn of_length(r: LengthAnswer) -> Answer
     ensures { λ a. ⌜ a ≡ lengths.numbers r ⌝ }
 {
     match r {
-        LengthAnswer::Length(n) => accepted(0, 0, n),
-        LengthAnswer::NoRow(i) => refused(35, i),
+        LengthAnswer::Length(n) => Answer::accepted(0, 0, n),
+        LengthAnswer::NoRow(i) => Answer::refused(Answer::NO_ROW, i),
         LengthAnswer::Refused(v) => of_verdict(v),
     }
 }
@@ -114,8 +92,8 @@ pub fn of_measure(r: MeasureAnswer) -> Answer
     ensures { λ a. ⌜ a ≡ measures.numbers r ⌝ }
 {
     match r {
-        MeasureAnswer::Measured(m) => accepted(outcome(m), 0, 0),
-        MeasureAnswer::NoElement(i) => refused(35, i),
+        MeasureAnswer::Measured(m) => Answer::accepted(outcome(m), 0, 0),
+        MeasureAnswer::NoElement(i) => Answer::refused(Answer::NO_ROW, i),
         MeasureAnswer::Refused(v) => of_verdict(v),
     }
 }
@@ -124,9 +102,9 @@ pub fn of_matched(m: Matched) -> Answer
     ensures { λ r. ⌜ r ≡ patterns.numbers m ⌝ }
 {
     match m {
-        Matched::Yes => accepted(1, 0, 0),
-        Matched::No => accepted(0, 0, 0),
-        Matched::NoPattern(p) => refused(36, p),
+        Matched::Yes => Answer::accepted(1, 0, 0),
+        Matched::No => Answer::accepted(0, 0, 0),
+        Matched::NoPattern(p) => Answer::refused(Answer::NO_PATTERN, p),
     }
 }
 
@@ -134,8 +112,8 @@ pub fn of_line(l: OptionLine) -> Answer
     ensures { λ r. ⌜ r ≡ line.numbers l ⌝ }
 {
     match l {
-        OptionLine::Options(_) => accepted(0, 0, 0),
-        OptionLine::Wrong => refused(33, 0),
+        OptionLine::Options(_) => Answer::accepted(0, 0, 0),
+        OptionLine::Wrong => Answer::refused(Answer::WRONG_OPTIONS, 0),
     }
 }
 
@@ -143,11 +121,11 @@ pub fn of_extraction(e: Extraction) -> Answer
     ensures { λ r. ⌜ r ≡ html2text.numbers e ⌝ }
 {
     match e {
-        Extraction::Text { visits, len } => accepted(0, visits, len),
+        Extraction::Text { visits, len } => Answer::accepted(0, visits, len),
         Extraction::Refused(v) => of_verdict(v),
-        Extraction::ListLevels(line) => refused(21, line),
-        Extraction::OpenRows(line) => refused(22, line),
-        Extraction::WorkTooShort(need) => refused(31, need),
-        Extraction::OutTooShort(need) => refused(32, need),
+        Extraction::ListLevels(line) => Answer::refused(Answer::TOO_MANY_LIST_LEVELS, line),
+        Extraction::OpenRows(line) => Answer::refused(Answer::TOO_MANY_OPEN_ROWS, line),
+        Extraction::WorkTooShort(need) => Answer::refused(Answer::WORK_TOO_SHORT, need),
+        Extraction::OutTooShort(need) => Answer::refused(Answer::OUT_TOO_SHORT, need),
     }
 }

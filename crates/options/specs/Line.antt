@@ -6,6 +6,7 @@ use lib.Dec.{leb, eqb}
 use lib.ListN.{length, getD, take, drop}
 use Rattle.common.specs.Answer.{Answer, refused, written}
 use Rattle.common.specs.Bytes.{Bytes}
+use Rattle.common.specs.Refusals.{wrongOptions}
 use Rattle.options.specs.declared.ExtractOptions.{ExtractOptions}
 use Rattle.options.specs.declared.Formatting.{Formatting}
 use Rattle.options.specs.declared.Formatting.the-variants.{Off, Basic, MinimalHtml}
@@ -60,4 +61,4 @@ lineOf s = cond (lineRight s) (Options (optionsIn s)) Wrong
 -- "33: the program's option line is wrong; .. Second number 0."
 abbrev pub numbers : OptionLine → Answer
 numbers (Options o) = written 0
-numbers Wrong = refused 33 0
+numbers Wrong = refused wrongOptions 0

@@ -3,12 +3,44 @@
 pub mod line;
 
 ghost use mathlib.Core.Path.{_≡_};
-ghost use Rattle.options.specs.Options.{standing};
+ghost use Rattle.options.specs.Options.{isBasic, isMinimalHtml, isOff, standing};
 
 pub enum Formatting {
     Off,
     Basic,
     MinimalHtml,
+}
+
+impl Formatting {
+    pub fn is_off(self) -> bool
+        ensures { λ r. ⌜ r ≡ isOff self ⌝ }
+    {
+        match self {
+            Formatting::Off => true,
+            Formatting::Basic => false,
+            Formatting::MinimalHtml => false,
+        }
+    }
+
+    pub fn is_basic(self) -> bool
+        ensures { λ r. ⌜ r ≡ isBasic self ⌝ }
+    {
+        match self {
+            Formatting::Off => false,
+            Formatting::Basic => true,
+            Formatting::MinimalHtml => false,
+        }
+    }
+
+    pub fn is_minimal_html(self) -> bool
+        ensures { λ r. ⌜ r ≡ isMinimalHtml self ⌝ }
+    {
+        match self {
+            Formatting::Off => false,
+            Formatting::Basic => false,
+            Formatting::MinimalHtml => true,
+        }
+    }
 }
 
 // icons: false as the Rust, true private.

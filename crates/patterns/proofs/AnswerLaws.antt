@@ -6,6 +6,7 @@ use lib.Dec.{ltb}
 use borrow.Author.Tests.{lt-ltb, le-ltb}
 use Rattle.common.specs.Answer.{refused}
 use Rattle.common.specs.Bytes.{Bytes}
+use Rattle.common.specs.Refusals.{noPattern}
 use Rattle.regex.proofs.CodeLaws.{chosen, other}
 use Rattle.patterns.specs.Match.{matchesOf}
 use Rattle.patterns.specs.Answers.{said, numbers, answerOf, matched}
@@ -21,18 +22,18 @@ module _ (p : ℕ) (s : Bytes) where
   pub answer-none : lastPattern < p → Answers (NoPattern p) p s
   answer-none h =
       let e = lt-ltb lastPattern p h in
-      (chosen (ltb lastPattern p) (NoPattern p) (cond (matchesOf p s) Yes No) e, chosen (ltb lastPattern p) (refused 36 p) (said (matchesOf p s)) e)
+      (chosen (ltb lastPattern p) (NoPattern p) (cond (matchesOf p s) Yes No) e, chosen (ltb lastPattern p) (refused noPattern p) (said (matchesOf p s)) e)
 
   pub answer-yes : p ≤ lastPattern → true ≡ matchesOf p s → Answers Yes p s
   answer-yes h t =
       let e = le-ltb lastPattern p h in (
         chosen (matchesOf p s) Yes No (sym t) ∙ other (ltb lastPattern p) (NoPattern p) (cond (matchesOf p s) Yes No) e,
-        ap said t ∙ other (ltb lastPattern p) (refused 36 p) (said (matchesOf p s)) e,
+        ap said t ∙ other (ltb lastPattern p) (refused noPattern p) (said (matchesOf p s)) e,
       )
 
   pub answer-no : p ≤ lastPattern → false ≡ matchesOf p s → Answers No p s
   answer-no h t =
       let e = le-ltb lastPattern p h in (
         other (matchesOf p s) Yes No (sym t) ∙ other (ltb lastPattern p) (NoPattern p) (cond (matchesOf p s) Yes No) e,
-        ap said t ∙ other (ltb lastPattern p) (refused 36 p) (said (matchesOf p s)) e,
+        ap said t ∙ other (ltb lastPattern p) (refused noPattern p) (said (matchesOf p s)) e,
       )

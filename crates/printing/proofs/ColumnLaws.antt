@@ -11,6 +11,7 @@ use lib.Seq.{take-at}
 use borrow.Author.Tests.{ltb-true, ltb-false}
 use Rattle.common.specs.Answer.{Answer, refused}
 use Rattle.common.specs.Bytes.{Bytes}
+use Rattle.common.specs.Refusals.{inputTooLong}
 use Rattle.common.proofs.Choice.{by-test, by-cond}
 use Rattle.html2text.specs.Bounds.{beside, AnswerBounded, writtenBy}
 use Rattle.html2text.specs.Extract.{numbers, extraction}
@@ -113,7 +114,7 @@ behind-begins Wrong s = ([], sym (append-nil _))
 printed-begins : (input : Bytes) → BeginsWith (answerTo input) (printed input)
 unfolding printed answerTo
 printed-begins input =
-    by-test (ltb room (length input)) (λ e. rw e ([], sym (append-nil (answerLine (refused 34 0)))))
+    by-test (ltb room (length input)) (λ e. rw e ([], sym (append-nil (answerLine (refused inputTooLong 0)))))
     (λ e. rw e (behind-begins (lineOf input) (drop lineLength input)))
 
 pub lines-fit : LinesFit

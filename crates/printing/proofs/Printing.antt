@@ -9,6 +9,7 @@ use borrow.Author.Tests.{lt-ltb, le-ltb}
 use Rattle.common.specs.Answer.{Answer, refused}
 use Rattle.common.specs.Bytes.{Bytes, padded}
 use Rattle.common.specs.Puts.{Puts}
+use Rattle.common.specs.Refusals.{inputTooLong}
 use Rattle.common.proofs.Choice.{by-test}
 use Rattle.common.proofs.Parts.{part-from}
 use Rattle.common.proofs.Puts.{puts-length, puts-padded}
@@ -64,7 +65,7 @@ numbers-only : {before s to : Bytes} {r : ℕ} (a : Answer) → 33 + room + 1 �
 numbers-only a h p e = (puts-as p e, omega (arith, p .place, answer-length a, puts-length p))
 
 module _ (input : Bytes) {before to : Bytes} {r : ℕ} where
-  pub printed-long : (a : Answer) → 33 + room + 1 ≤ length before → room < length input → a ≡ refused 34 0 → Puts before 0 (answerLine a) to r → Stored before (printed input) to r
+  pub printed-long : (a : Answer) → 33 + room + 1 ≤ length before → room < length input → a ≡ refused inputTooLong 0 → Puts before 0 (answerLine a) to r → Stored before (printed input) to r
   unfolding printed
   printed-long a f h e p = rw (lt-ltb room (length input) h) (numbers-only a f p (ap answerLine e))
 

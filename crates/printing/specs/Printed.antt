@@ -7,6 +7,7 @@ use lib.Dec.{ltb}
 use lib.ListN.{length, take, drop, replicate}
 use Rattle.common.specs.Answer.{Answer, refused}
 use Rattle.common.specs.Bytes.{Bytes}
+use Rattle.common.specs.Refusals.{inputTooLong}
 use Rattle.html2text.specs.Extract.{numbers}
 use Rattle.html2text.specs.declared.Extraction.{Extraction}
 use Rattle.html2text.specs.declared.Extraction.the-variants.{Text, Refused, ListLevels, OpenRows, WorkTooShort, OutTooShort}
@@ -56,7 +57,7 @@ behindLine Wrong s = answerLine (option-line.numbers Wrong)
 
 -- 34 is "tested before 33"; its second number is 0
 unfoldable pub printed : Bytes → Bytes
-printed input = cond (ltb room (length input)) (answerLine (refused 34 0)) (behindLine (lineOf input) (drop lineLength input))
+printed input = cond (ltb room (length input)) (answerLine (refused inputTooLong 0)) (behindLine (lineOf input) (drop lineLength input))
 
 -- the numbers of the line
 abbrev pub answerBehind : OptionLine → Bytes → Answer
@@ -64,4 +65,4 @@ answerBehind (Options o) s = numbers (extractionOf s o room room)
 answerBehind Wrong s = option-line.numbers Wrong
 
 unfoldable pub answerTo : Bytes → Answer
-answerTo input = cond (ltb room (length input)) (refused 34 0) (answerBehind (lineOf input) (drop lineLength input))
+answerTo input = cond (ltb room (length input)) (refused inputTooLong 0) (answerBehind (lineOf input) (drop lineLength input))

@@ -5,7 +5,6 @@ use common::Answer;
 use html2text::Extraction;
 use numbers::of_extraction;
 use numbers::of_line;
-use numbers::refused;
 use options::ExtractOptions;
 use options::line::LENGTH;
 use options::line::OptionLine;
@@ -99,7 +98,7 @@ fn put_printed(to: &mut [u8], input: &[u8]) -> usize
     ensures within { λ r. ⌜ r ≤ length (now (to .exit)) ⌝ }
 {
     if input.len() > ROOM {
-        return put_answer(to, refused(34, 0));
+        return put_answer(to, Answer::refused(Answer::INPUT_TOO_LONG, 0));
     }
     let line = read_line(input);
     let OptionLine::Options(o) = line else {

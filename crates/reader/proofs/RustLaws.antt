@@ -16,6 +16,7 @@ use Rattle.html2text.specs.Extract.{hidden, serialized}
 use Rattle.html2text.specs.Serialize.{State, step}
 use Rattle.html2text.specs.Theorems.{HidesRows}
 use Rattle.html2text.proofs.GoingLaws.{going-taken}
+use Rattle.options.specs.Options.{withIcons}
 use Rattle.options.specs.declared.ExtractOptions.{ExtractOptions}
 use Rattle.sheet.specs.Column.{parentOf}
 use Rattle.tree.specs.Page.{Page}
@@ -58,15 +59,4 @@ going-serialized o (e ∷ before) =
 
 -- with our added option at 0 the options are the Rust's
 pub rust-options : (o : ExtractOptions) → o .icons ≡ false → o ≡ rustOptions o
-rust-options o e = λ i. record {
-  formatting = o .formatting;
-  «main_content» = o .«main_content»;
-  «list_bullets» = o .«list_bullets»;
-  «alt_texts» = o .«alt_texts»;
-  links = o .links;
-  «form_fields» = o .«form_fields»;
-  comments = o .comments;
-  «post_meta» = o .«post_meta»;
-  «hidden_elements» = o .«hidden_elements»;
-  icons = e i;
-}
+rust-options o e = ap (λ (b : Bool). withIcons b o) e

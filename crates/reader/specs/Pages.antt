@@ -8,10 +8,10 @@ use lib.Dec.{eqb}
 use lib.ListN.{length, take, replicate}
 use Rattle.common.specs.Bytes.{Bytes, codes, same}
 use Rattle.html2text.specs.Extract.{numbers}
-use Rattle.options.specs.Options.{standing}
+use Rattle.options.specs.Options.{standing, withFormatting, withMainContent, withLinks, withIcons}
 use Rattle.options.specs.declared.ExtractOptions.{ExtractOptions}
 use Rattle.options.specs.declared.Formatting.{Formatting}
-use Rattle.options.specs.declared.Formatting.the-variants.{Off, Basic, MinimalHtml}
+use Rattle.options.specs.declared.Formatting.the-variants.{Off, MinimalHtml}
 use Rattle.sheet.specs.Writing.{line}
 use Rattle.reader.specs.Extraction.{extractionOf, outAfterOf}
 
@@ -71,13 +71,13 @@ sheetOf rows =
 -- ---- options
 
 abbrev formatted : Formatting → ExtractOptions
-formatted f = record { formatting = f; «main_content» = false; «list_bullets» = true; «alt_texts» = true; links = false; «form_fields» = false; comments = true; «post_meta» = true; «hidden_elements» = false; icons = false }
+formatted f = withFormatting f standing
 
 abbrev linked : ExtractOptions
-linked = record { formatting = Basic; «main_content» = false; «list_bullets» = true; «alt_texts» = true; links = true; «form_fields» = false; comments = true; «post_meta» = true; «hidden_elements» = false; icons = false }
+linked = withLinks true standing
 
 abbrev mainContent : Bool → ExtractOptions
-mainContent icons = record { formatting = Basic; «main_content» = true; «list_bullets» = true; «alt_texts» = true; links = false; «form_fields» = false; comments = true; «post_meta» = true; «hidden_elements» = false; icons = icons }
+mainContent icons = withMainContent true (withIcons icons standing)
 
 -- ---- the pages
 

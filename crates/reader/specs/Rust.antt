@@ -12,6 +12,7 @@ use Rattle.html2text.specs.Collect.{Entry}
 use Rattle.html2text.specs.Extract.{finished}
 use Rattle.html2text.specs.Serialize.{State, start, step}
 use Rattle.html2text.specs.Walk.{Sofar, loop}
+use Rattle.options.specs.Options.{withIcons}
 use Rattle.options.specs.declared.ExtractOptions.{ExtractOptions}
 use Rattle.sheet.specs.Column.{parentOf}
 use Rattle.tree.specs.Page.{Page}
@@ -44,18 +45,7 @@ rustState o (e ∷ before) = step (o .formatting) (o .«list_bullets») (e .node
 
 -- the options that the Rust has: our added one at 0
 abbrev pub rustOptions : ExtractOptions → ExtractOptions
-rustOptions o = record {
-  formatting = o .formatting;
-  «main_content» = o .«main_content»;
-  «list_bullets» = o .«list_bullets»;
-  «alt_texts» = o .«alt_texts»;
-  links = o .links;
-  «form_fields» = o .«form_fields»;
-  comments = o .comments;
-  «post_meta» = o .«post_meta»;
-  «hidden_elements» = o .«hidden_elements»;
-  icons = false;
-}
+rustOptions = withIcons false
 
 -- `Ok(serialize(nodes, opts))`, with the last `rstrip(&mut out)`
 unfoldable pub rustText : Page → ExtractOptions → Bytes

@@ -25,16 +25,6 @@ ghost use Rattle.tags.specs.Tags.{isCell};
 ghost use Rattle.serializer.specs.Progress.{AbleLevels, Begins, blockBefore};
 ghost use Rattle.serializer.specs.Serializing.{Able, AbleListed, Limits, ListLimits, Numbers, WorksAlone, WorksLevels, WorksListed, lent};
 
-pub fn is_off(f: Formatting) -> bool
-    ensures { λ r. ⌜ r ≡ isOff f ⌝ }
-{
-    match f {
-        Formatting::Off => true,
-        Formatting::Basic => false,
-        Formatting::MinimalHtml => false,
-    }
-}
-
 // A cell's end is dropped, with all that it has gathered.
 fn is_dropped(n: ExtractNode) -> bool
     ensures { λ r. ⌜ r ≡ (isCell (n .tag) && n .end) ⌝ }
@@ -143,10 +133,10 @@ pub fn begin(
             showing,
         };
     }
-    let b = cell(a, n, is_off(f), cells, out, write);
+    let b = cell(a, n, f.is_off(), cells, out, write);
     let block = block_before(f, bullets, n, b.uncollapsed);
     let serializer = after(f, b, n, bullets, numbering, out, write);
-    let showing = showing_of(is_off(f), n, block, serializer.writer);
+    let showing = showing_of(f.is_off(), n, block, serializer.writer);
     Begun {
         serializer,
         showing,

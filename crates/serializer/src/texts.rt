@@ -3,7 +3,6 @@ use crate::Progress;
 use crate::Serializer;
 use crate::margins::collapses;
 use crate::margins::margin;
-use crate::step::is_off;
 use html2text::ExtractNode;
 use html2text::Showing;
 use options::Formatting;
@@ -14,7 +13,6 @@ ghost use lib.Dec.{eqb, ltb};
 ghost use Rattle.common.specs.Bytes.{isEmpty};
 ghost use Rattle.html2text.specs.Serialize.{indentText, lead, one, shortened};
 ghost use Rattle.html2text.specs.Showing.{leadIn, showPiece, showsAny};
-ghost use Rattle.options.specs.Options.{isBasic};
 ghost use Rattle.text.specs.Text.{escape, isSpace, spaceAfter};
 ghost use Rattle.writer.specs.Out.{pushAll};
 ghost use Rattle.writer.specs.Shown.{shown};
@@ -132,16 +130,6 @@ pub fn showing_of(off: bool, n: ExtractNode, block: bool, w: Writer) -> Showing
     }
 }
 
-fn is_basic(f: Formatting) -> bool
-    ensures { λ r. ⌜ r ≡ isBasic f ⌝ }
-{
-    match f {
-        Formatting::Off => false,
-        Formatting::Basic => true,
-        Formatting::MinimalHtml => false,
-    }
-}
-
 // Margin, indentation and prefix, where nothing was shown yet.
 fn lead_in(
     f: Formatting,
@@ -155,9 +143,9 @@ fn lead_in(
     ensures { λ r. ⌜ WorksOut write s (now (out .entry)) r (now (out .exit)) (leadIn f bullets w) ⌝ }
 {
     if w.empty {
-        let mut a = margin(s, w.squeeze, is_off(f), out, write);
+        let mut a = margin(s, w.squeeze, f.is_off(), out, write);
         a.uncollapsed = 0;
-        return lead(a, is_basic(f), bullets, out, write);
+        return lead(a, f.is_basic(), bullets, out, write);
     }
     s
 }

@@ -7,6 +7,7 @@ use lib.Dec.{leb, ltb, eqb}
 use lib.ListN.{length}
 use Rattle.common.specs.Answer.{Answer, refused, written}
 use Rattle.common.specs.Bytes.{Bytes, codes, same}
+use Rattle.common.specs.Refusals.{wrongLength, wrongFormat, wrongCounts, wrongTree, wrongKind, wrongRange, notUtf8}
 use Rattle.utf8.specs.Valid.{valid}
 use Rattle.sheet.specs.Column.{parentOf}
 use Rattle.sheet.specs.Layout.{headerLength, nodeStart, attributeStart, sizeOf, mostRows, mostAttributes, mostDepth, poolLimit, partOf, layoutOf, rowAt, attributeAt, poolOf, depths}
@@ -196,10 +197,10 @@ isSheet (Encoding n) = false
 -- the numbers of each case
 abbrev pub numbers : Verdict → Answer
 numbers (Sheet l) = written 0
-numbers (Length n) = refused 11 n
-numbers (Format line) = refused 12 line
-numbers Counts = refused 13 0
-numbers (Tree line) = refused 14 line
-numbers (Kind line) = refused 15 line
-numbers (Range line) = refused 16 line
-numbers (Encoding line) = refused 17 line
+numbers (Length n) = refused wrongLength n
+numbers (Format line) = refused wrongFormat line
+numbers Counts = refused wrongCounts 0
+numbers (Tree line) = refused wrongTree line
+numbers (Kind line) = refused wrongKind line
+numbers (Range line) = refused wrongRange line
+numbers (Encoding line) = refused notUtf8 line

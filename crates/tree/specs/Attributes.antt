@@ -5,6 +5,7 @@ use mathlib.Core.Option.{Option, none, some}
 use Prim.Native.Nat.{ℕ, zero, suc}
 use Rattle.common.specs.Answer.{Answer, refused, written}
 use Rattle.common.specs.Bytes.{Bytes, same}
+use Rattle.common.specs.Refusals.{noRow}
 use Rattle.sheet.specs.Layout.{attributeAt, range, rowAt}
 use Rattle.sheet.specs.Verdict.{countsFrom}
 use Rattle.sheet.specs.Verdict as verdict
@@ -59,7 +60,7 @@ attributeOf s row name = attributeTo s row name (askedOf s row)
 abbrev pub numbers : AttributeAnswer → Answer
 numbers answer.the-variants.Absent = written 0
 numbers (answer.the-variants.At at len) = written len
-numbers (answer.the-variants.NoRow i) = refused 35 i
+numbers (answer.the-variants.NoRow i) = refused noRow i
 numbers (answer.the-variants.Refused v) = verdict.numbers v
 
 -- the values of each case: a range's start and length, or none
@@ -82,7 +83,7 @@ abbrev pub rangeOf : Bytes → Layout → ℕ → Bytes → AttributeAt
 rangeOf s l row name = findOf s l name (countsFrom s l 0 row) (rowAt s l row .attributes)
 
 unfoldable pub attributeNumbers : Bytes → ℕ → Bytes → Answer
-attributeNumbers s row name = bySheet (λ l. rangeNumbers (rangeOf s l row name)) (refused 35 row) verdict.numbers s row
+attributeNumbers s row name = bySheet (λ l. rangeNumbers (rangeOf s l row name)) (refused noRow row) verdict.numbers s row
 
 unfoldable pub attributeValues : Bytes → ℕ → Bytes → List ℕ
 attributeValues s row name = bySheet (λ l. rangeValues (rangeOf s l row name)) [] (λ v. []) s row

@@ -4,8 +4,9 @@ use mathlib.Core.List.{List}
 use mathlib.Core.Option.{Option, none, some}
 use Prim.Native.Nat.{ℕ}
 use lib.Dec.{ltb}
-use Rattle.common.specs.Answer.{Answer, refused, written}
+use Rattle.common.specs.Answer.{Answer, refused, accepted, written}
 use Rattle.common.specs.Bytes.{Bytes}
+use Rattle.common.specs.Refusals.{noRow}
 use Rattle.sheet.specs.Layout.{rowAt, depths}
 use Rattle.sheet.specs.Notes.{foundOf}
 use Rattle.sheet.specs.Verdict.{verdict}
@@ -65,13 +66,13 @@ relativeOf relation s row = relativeTo relation s row (askedOf s row)
 
 -- a row's numbers: 0 and the row, with length 1 to tell it from none, which has length 0
 abbrev pub rowFound : ℕ → Answer
-rowFound j = record { number = 0; second = j; visits = 0; length = 1 }
+rowFound j = accepted j 0 1
 
 -- the numbers of each case
 abbrev pub numbers : Relative → Answer
 numbers (Row j) = rowFound j
 numbers Nothing = written 0
-numbers (NoRow i) = refused 35 i
+numbers (NoRow i) = refused noRow i
 numbers (Refused v) = sheet-verdict.numbers v
 
 abbrev pub rowOrNone : Option ℕ → Answer
@@ -80,4 +81,4 @@ rowOrNone (some j) = rowFound j
 
 -- the numbers of the whole answer, by the sheet alone
 unfoldable pub relativeNumbers : (List ℕ → ℕ → Option ℕ) → Bytes → ℕ → Answer
-relativeNumbers relation s row = bySheet (λ l. rowOrNone (relation (depths s l) row)) (refused 35 row) sheet-verdict.numbers s row
+relativeNumbers relation s row = bySheet (λ l. rowOrNone (relation (depths s l) row)) (refused noRow row) sheet-verdict.numbers s row

@@ -4,6 +4,7 @@ use Prim.Native.Nat.{ℕ, _+_}
 use lib.ListN.{length}
 use Rattle.common.specs.Answer.{Answer, refused, written}
 use Rattle.common.specs.Bytes.{Bytes}
+use Rattle.common.specs.Refusals.{noRow}
 use Rattle.sheet.specs.Layout.{depths}
 use Rattle.sheet.specs.Verdict as verdict
 use Rattle.text.specs.Text.{isSpace, collapseFrom, spaceAfter, collapse}
@@ -37,9 +38,9 @@ lengthOf s row = lengthTo s row (askedOf s row)
 -- the numbers of each case
 abbrev pub numbers : LengthAnswer → Answer
 numbers (Length n) = written n
-numbers (NoRow i) = refused 35 i
+numbers (NoRow i) = refused noRow i
 numbers (Refused v) = verdict.numbers v
 
 -- the numbers of the whole answer, by the sheet alone
 unfoldable pub lengthNumbers : Bytes → ℕ → Answer
-lengthNumbers s row = bySheet (λ l. written (textLength (nodeAt s l) (depths s l) row)) (refused 35 row) verdict.numbers s row
+lengthNumbers s row = bySheet (λ l. written (textLength (nodeAt s l) (depths s l) row)) (refused noRow row) verdict.numbers s row

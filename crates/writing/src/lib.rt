@@ -12,7 +12,6 @@ use serializer::Progress;
 use serializer::Serializer;
 use serializer::changes_level;
 use serializer::step::begin;
-use serializer::step::is_off;
 use sheet::line::Layout;
 use visits::Seen;
 use visits::see;
@@ -80,7 +79,7 @@ fn start() -> OpenEntry
 fn passes_levels(f: Formatting, v: Visit, depth: usize) -> bool
     ensures { λ r. ⌜ r ≡ depthPassesAt f v depth ⌝ }
 {
-    if is_off(f) {
+    if f.is_off() {
         return false;
     }
     if v.end {

@@ -5,43 +5,16 @@ use borrow.Author.Needs.{needs}
 use Rattle.numbers.proofs.of_length.Statement.{statement}
 use Rattle.numbers.proofs.of_length.Tie as tie
 
-enum-known-r : tie.Need-enum-known-r
-enum-known-r c = search needs
-
-accepted-requires : tie.Need-accepted-requires
-accepted-requires c κs = search needs
-
-enum-known-r-2 : tie.Need-enum-known-r-2
-enum-known-r-2 c = search needs
-
-refused-requires : tie.Need-refused-requires
-refused-requires c κs = search needs
-
-enum-known-r-3 : tie.Need-enum-known-r-3
-enum-known-r-3 c = search needs
-
-of-verdict-requires : tie.Need-of-verdict-requires
-of-verdict-requires c κs = search needs
-
-returns : tie.Need-returns
-returns c = c .accepted .ensures ∙ sym (ap numbers (c .before .before .r .given .1))
-
-returns-2 : tie.Need-returns-2
-returns-2 c = c .refused .ensures ∙ sym (ap numbers (c .before .before .r2 .given .1))
-
-returns-3 : tie.Need-returns-3
-returns-3 c = search needs
-
 pub of-length-spec : {M : Type 1} → statement M
 of-length-spec =
     tie.close
     (tie.spec
-    enum-known-r
-    accepted-requires
-    enum-known-r-2
-    refused-requires
-    enum-known-r-3
-    of-verdict-requires
-    returns
-    returns-2
-    returns-3)
+    (λ c. search needs)
+    (λ c κs. search needs)
+    (λ c. search needs)
+    (λ c κs. search needs)
+    (λ c. search needs)
+    (λ c κs. search needs)
+    (λ c. c .accepted .ensures ∙ sym (ap numbers (c .before .before .r .given .1)))
+    (λ c. c .refused .ensures ∙ sym (ap numbers (c .before .before .r2 .given .1)))
+    (λ c. search needs))
