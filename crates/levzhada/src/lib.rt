@@ -1,17 +1,16 @@
 // The entry points for other languages: each answer in document 01's numbers. A slice is a pointer and a length.
 use common::Answer;
-use links::Measure;
 use links::Rule;
-use links::exceeds;
-use links::questions::MeasureAnswer;
-use numbers::of_attribute;
 use numbers::of_extraction;
 use numbers::of_length;
 use numbers::of_matched;
-use numbers::of_measure;
 use numbers::of_relative;
 use numbers::of_verdict;
 use numbers::of_written;
+use numbers::values::LinkMeasure;
+use numbers::values::Range;
+use numbers::values::link_measure_of;
+use numbers::values::range_of;
 use options::line::OptionLine;
 use options::line::read_line;
 use reader::attribute_of;
@@ -25,11 +24,11 @@ use reader::measure_of;
 use reader::next_sibling_of;
 use reader::parent_of;
 use reader::text_length_of;
-use tree::attributes::AttributeAnswer;
 ghost use mathlib.Core.Path.{_≡_};
 ghost use lib.ListN.{length};
 ghost use Rattle.common.specs.Answer.{outAfter, writtenIn};
 ghost use Rattle.links.specs.Questions.{measureAnswerOf};
+ghost use Rattle.numbers.specs.Values.{linkMeasureOf, rangeOf, ruleOf};
 ghost use Rattle.patterns.specs.Answers.{answerOf};
 ghost use Rattle.sheet.specs.Column.{parentOf};
 ghost use Rattle.sheet.specs.Verdict.{numbers, verdict};
@@ -38,23 +37,7 @@ ghost use Rattle.tree.specs.Attributes.{attributeOf};
 ghost use Rattle.tree.specs.Questions.{relativeNumbers};
 ghost use Rattle.tree.specs.Rows.{firstChildOf, nextSiblingOf};
 ghost use Rattle.tree.specs.TextLength.{lengthNumbers};
-ghost use Rattle.levzhada.specs.Answers.{extractNumbers, extractOut, extractWork, linkMeasureOf, rangeOf, ruleOf, shareIn, yesIn};
-
-// An attribute's range in the pool: present is 1 where there is one, and its length is the answer's.
-#[repr(C)]
-pub struct Range {
-    pub answer: Answer,
-    pub present: usize,
-    pub at: usize,
-}
-
-// The link measure of a row: exceeds is 1 where the share exceeds the rule's ratio, and share is 0 where there is none.
-#[repr(C)]
-pub struct LinkMeasure {
-    pub answer: Answer,
-    pub exceeds: usize,
-    pub share: f64,
-}
+ghost use Rattle.levzhada.specs.Answers.{extractNumbers, extractOut, extractWork};
 
 #[no_mangle]
 pub extern "C" fn levzhada_check(sheet: &[u8]) -> Answer
@@ -102,24 +85,6 @@ pub extern "C" fn levzhada_next_sibling(sheet: &[u8], row: usize) -> Answer
     of_relative(next_sibling_of(sheet, row))
 }
 
-fn range_of(a: AttributeAnswer) -> Range
-    ensures { λ r. ⌜ r ≡ rangeOf a ⌝ }
-{
-    let answer = of_attribute(a);
-    let AttributeAnswer::At { at, len: _ } = a else {
-        return Range {
-            answer,
-            present: 0,
-            at: 0,
-        };
-    };
-    Range {
-        answer,
-        present: 1,
-        at,
-    }
-}
-
 #[no_mangle]
 pub extern "C" fn levzhada_attribute(sheet: &[u8], row: usize, name: &[u8]) -> Range
     ensures { λ r. ⌜ r ≡ rangeOf (attributeOf (now (sheet .entry)) row (now (name .entry))) ⌝ }
@@ -132,44 +97,6 @@ pub extern "C" fn levzhada_text_length(sheet: &[u8], row: usize) -> Answer
     ensures { λ r. ⌜ r ≡ lengthNumbers (now (sheet .entry)) row ⌝ }
 {
     of_length(text_length_of(sheet, row))
-}
-
-fn share_in(m: Measure) -> f64
-    ensures { λ r. ⌜ r ≡ shareIn m ⌝ }
-{
-    match m {
-        Measure::NoText => 0.0,
-        Measure::TooLong => 0.0,
-        Measure::NoLinks => 0.0,
-        Measure::Share(share) => share,
-    }
-}
-
-fn yes_in(rule: Rule, m: Measure) -> usize
-    ensures { λ r. ⌜ r ≡ yesIn rule m ⌝ }
-{
-    if exceeds(rule, m) {
-        return 1;
-    }
-    0
-}
-
-fn link_measure_of(rule: Rule, a: MeasureAnswer) -> LinkMeasure
-    ensures { λ r. ⌜ r ≡ linkMeasureOf rule a ⌝ }
-{
-    let answer = of_measure(a);
-    let MeasureAnswer::Measured(m) = a else {
-        return LinkMeasure {
-            answer,
-            exceeds: 0,
-            share: 0.0,
-        };
-    };
-    LinkMeasure {
-        answer,
-        exceeds: yes_in(rule, m),
-        share: share_in(m),
-    }
 }
 
 #[no_mangle]

@@ -21,6 +21,8 @@ ghost use Rattle.tree.specs.Attributes as attributes;
 ghost use Rattle.tree.specs.Questions as questions;
 ghost use Rattle.tree.specs.TextLength as lengths;
 
+pub mod values;
+
 pub fn of_written(w: Written) -> Answer
     ensures { λ r. ⌜ r ≡ common.numbers w ⌝ }
 {

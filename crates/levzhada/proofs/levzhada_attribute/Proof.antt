@@ -1,6 +1,6 @@
 -- `levzhada_attribute` meets its contract.
 use mathlib.Core.Path.{ap, _∙_}
-use Rattle.levzhada.specs.Answers.{rangeOf}
+use Rattle.numbers.specs.Values.{rangeOf}
 use borrow.Author.Needs.{needs}
 use Rattle.levzhada.proofs.levzhada_attribute.Statement.{statement}
 use Rattle.levzhada.proofs.levzhada_attribute.Tie as tie

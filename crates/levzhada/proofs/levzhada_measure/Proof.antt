@@ -1,6 +1,6 @@
 -- `levzhada_measure` meets its contract.
 use mathlib.Core.Path.{ap, _∙_}
-use Rattle.levzhada.specs.Answers.{linkMeasureOf, ruleOf}
+use Rattle.numbers.specs.Values.{linkMeasureOf, ruleOf}
 use borrow.Author.Needs.{needs}
 use Rattle.levzhada.proofs.levzhada_measure.Statement.{statement}
 use Rattle.levzhada.proofs.levzhada_measure.Tie as tie
