@@ -1,5 +1,5 @@
--- How large the numbers of a run can grow, by how many events there are and how much one of them adds: with at most 40,000 events, each of
--- which adds at most six times a pool of 268,435,456 bytes, all of them fit a word.
+-- How large the numbers of a run can grow, by how many events there are and how much one of them adds: with at most `mostEvents` events, each
+-- of which adds at most `mostAdded` bytes, all of them fit a word.
 use mathlib.Core.Path.{_≡_}
 use mathlib.Core.Bool.{Bool}
 use mathlib.Core.List.{List, [], _∷_}
