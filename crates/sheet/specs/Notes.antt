@@ -61,7 +61,9 @@ Whole s l whole = WholePool (poolOf s l) whole
 unfoldable pub laterRight : Row → Row → Bool
 laterRight before r =
     leb 1 (r .depth)
-    && (leb (r .depth) mostDepth && (leb (r .depth) (suc (before .depth)) && cond (eqb (r .depth) (suc (before .depth))) (eqb (before .kind) 1) true))
+    && (leb (r .depth) mostDepth
+    && (leb (r .depth) (suc (before .depth))
+    && cond (eqb (r .depth) (suc (before .depth))) (eqb (before .kind) 1) true))
 
 -- the test of row i's place in the tree, by the row before it
 abbrev pub treeRight : Bytes → ℕ → Row → Row → Bool
@@ -75,7 +77,9 @@ rowRight pool i before r = kindRight r && (treeRight pool i before r && rowTexts
 -- a line as row i, where it is right and its attributes, behind `first` others, are there
 abbrev pub rightLine : Bytes → Layout → ℕ → Row → ℕ → NodeLine → NodeLine
 rightLine s l i before first (NodeLine.the-variants.Numbers r) =
-    cond (rowRight (poolOf s l) i before r && leb (first + r .attributes) (l .attributes)) (NodeLine.the-variants.Numbers r) NodeLine.the-variants.Bad
+    cond (rowRight (poolOf s l) i before r && leb (first + r .attributes) (l .attributes))
+    (NodeLine.the-variants.Numbers r)
+    NodeLine.the-variants.Bad
 rightLine s l i before first NodeLine.the-variants.Bad = NodeLine.the-variants.Bad
 
 -- the line at `at`

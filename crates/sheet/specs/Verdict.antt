@@ -30,7 +30,12 @@ stage none refuse next = next
 
 -- "N 1 to 20,000; A to 60,000; P to 4,194,304", and "root not below N"
 unfoldable pub countsRight : Layout → Bool
-countsRight l = leb 1 (l .nodes) && (leb (l .nodes) mostRows && (leb (l .attributes) mostAttributes && (leb (l .pool) (poolLimit (l .width)) && ltb (l .root) (l .nodes))))
+countsRight l =
+    leb 1 (l .nodes)
+    && (leb (l .nodes) mostRows
+    && (leb (l .attributes) mostAttributes
+    && (leb (l .pool) (poolLimit (l .width))
+    && ltb (l .root) (l .nodes))))
 
 -- "kind or skip not listed; a non-element with a name or attributes (length or count not 0); an element with a value length not 0"
 unfoldable pub kindRight : Row → Bool
