@@ -8,7 +8,7 @@ use lib.Dec.{eqb}
 use lib.ListN.{length, take, drop}
 use borrow.Author.Tests.{eqb-true, eqb-false}
 use Rattle.common.specs.Bytes.{Bytes, codes, same, isEmpty}
-use Rattle.common.proofs.Choice.{by-test, and-parts, absurd-test}
+use Rattle.common.proofs.Choice.{by-test, and-parts, and-false, absurd-test}
 use Rattle.options.specs.Options.{isBasic, isMinimalHtml}
 use Rattle.options.specs.declared.ExtractOptions.{ExtractOptions}
 use Rattle.options.specs.declared.Formatting.{Formatting}
@@ -69,10 +69,6 @@ module _ (n : Node) where
 cond-not : (b : Bool) (x y : Bytes) → cond (not b) x y ≡ cond b y x
 cond-not true x y = refl
 cond-not false x y = refl
-
-and-false : (a : Bool) → (a && false) ≡ false
-and-false true = refl
-and-false false = refl
 
 and-less : (a b c : Bool) → (a && b) ≡ false → (a && (b && c)) ≡ false
 and-less true true c e = absurd-test refl e

@@ -1,5 +1,5 @@
 -- A choice by a test, and what holds of it by the test's two outcomes.
-use mathlib.Core.Path.{_≡_, refl, sym, _∙_}
+use mathlib.Core.Path.{_≡_, refl, sym, ap, _∙_}
 use mathlib.Core.Bool.{Bool, true, false, _&&_, cond, true≢false}
 use Prim.Native.Nat.{ℕ, _≤_}
 use native.Mathlib.Nat.{lt-of-not-le, not-le-of-lt}
@@ -10,6 +10,13 @@ use borrow.Author.Tests.{leb-true, leb-false, le-leb, lt-leb}
 pub by-cond {ℓ κ} : {A : Type ℓ} (P : A → Type κ) (b : Bool) {x y : A} → (b ≡ true → P x) → (b ≡ false → P y) → P (cond b x y)
 by-cond P true f g = f refl
 by-cond P false f g = g refl
+
+-- the choice itself
+pub chosen : {A : Type 0} (b : Bool) (x y : A) → b ≡ true → x ≡ cond b x y
+chosen b x y e = sym (ap (λ (q : Bool). cond q x y) e)
+
+pub other : {A : Type 0} (b : Bool) (x y : A) → b ≡ false → y ≡ cond b x y
+other b x y e = sym (ap (λ (q : Bool). cond q x y) e)
 
 -- a fact by cases of a test
 pub by-test {ℓ} : {P : Type ℓ} (b : Bool) → (b ≡ true → P) → (b ≡ false → P) → P
@@ -25,6 +32,14 @@ and-parts false b e = absurd-test e refl
 
 pub and-both : {a b : Bool} → a ≡ true → b ≡ true → (a && b) ≡ true
 and-both p q = rw (p, q)
+
+pub and-true : (a : Bool) → (a && true) ≡ a
+and-true true = refl
+and-true false = refl
+
+pub and-false : (a : Bool) → (a && false) ≡ false
+and-false true = refl
+and-false false = refl
 
 -- two tests of order that hold together are equal
 pub leb-same : (a b c d : ℕ) → (a ≤ b → c ≤ d) → (c ≤ d → a ≤ b) → leb a b ≡ leb c d

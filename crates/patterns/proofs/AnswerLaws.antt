@@ -7,7 +7,7 @@ use borrow.Author.Tests.{lt-ltb, le-ltb}
 use Rattle.common.specs.Answer.{refused}
 use Rattle.common.specs.Bytes.{Bytes}
 use Rattle.common.specs.Refusals.{noPattern}
-use Rattle.regex.proofs.CodeLaws.{chosen, other}
+use Rattle.common.proofs.Choice.{chosen, other}
 use Rattle.patterns.specs.Match.{matchesOf}
 use Rattle.patterns.specs.Answers.{said, numbers, answerOf, matched}
 use Rattle.patterns.specs.Patterns.{lastPattern}

@@ -7,18 +7,12 @@ use lib.Dec.{eqb}
 use lib.ListN.{length, getD}
 use borrow.Author.Tests.{eq-eqb, ne-eqb}
 use Rattle.common.specs.Bytes.{Bytes}
-use Rattle.common.proofs.Choice.{absurd-test}
+use Rattle.common.proofs.Choice.{chosen, other, absurd-test}
 use Rattle.regex.specs.Regex.{inClass}
 use Rattle.regex.specs.Steps.{Step}
 use Rattle.regex.specs.Meaning.{classOf, stepOfKind, stepOf, blockedOf, freeMove, moveOf}
 use Rattle.regex.specs.declared.Move.{Move}
 use Rattle.regex.specs.declared.Move.the-variants.{Pass, Fail, Go, Try}
-
-pub chosen : {A : Type 0} (b : Bool) (x y : A) → b ≡ true → x ≡ cond b x y
-chosen b x y e = sym (ap (λ (q : Bool). cond q x y) e)
-
-pub other : {A : Type 0} (b : Bool) (x y : A) → b ≡ false → y ≡ cond b x y
-other b x y e = sym (ap (λ (q : Bool). cond q x y) e)
 
 module _ (s : Bytes) (at : ℕ) where
   pub never-blocked : (kind a : ℕ) → (kind ≡ 0 → ⊥) → (kind ≡ 4 → ⊥) → (kind ≡ 5 → ⊥) → false ≡ blockedOf (stepOfKind kind a) s at

@@ -6,10 +6,11 @@ use lib.ListN.{length, getD}
 use lib.Dec.{eqb}
 use native.Mathlib.Omega.{arith}
 use borrow.Author.Tests.{eq-eqb, ne-eqb}
+use Rattle.common.proofs.Choice.{chosen, other}
 use Rattle.regex.specs.Regex.{inClass}
 use Rattle.regex.specs.Joined.{joined}
 use Rattle.regex.specs.Meaning.{blockedOf, classOf}
-use Rattle.regex.proofs.CodeLaws.{chosen, other, never-blocked, blocked-kind}
+use Rattle.regex.proofs.CodeLaws.{never-blocked, blocked-kind}
 use Rattle.regex.proofs.blocked.Statement.{statement}
 use Rattle.regex.proofs.blocked.Tie as tie
 
