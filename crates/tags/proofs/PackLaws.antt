@@ -12,7 +12,7 @@ use borrow.Author.Tests.{ltb-true, le-leb, eq-eqb, ne-eqb}
 use Rattle.common.specs.Bytes.{Bytes, codes, same}
 use Rattle.common.proofs.Choice.{by-test, absurd-test, and-parts}
 use Rattle.common.proofs.Equality.{same-true, same-of}
-use Rattle.tags.specs.Packed.{packOf, tagPacked}
+use Rattle.tags.specs.Packed.{packOf, packed, tagPacked}
 use Rattle.tags.specs.Tags.{tagNames, tagOf}
 use Rattle.tags.specs.Words.{words, firstWord, otherWords, oneOf}
 use Rattle.tags.proofs.TagLaws.{known, unknown}
@@ -76,7 +76,7 @@ pack-eqb s t a b =
     (λ e. eq-eqb (packOf s) (packOf t) (ap packOf (same-true s t e)) ∙ sym e)
     (λ e. ne-eqb (packOf s) (packOf t) (λ q. absurd-test (same-of s t (pack-same s t a b q)) e) ∙ sym e)
 
--- ---- the tag by the number
+-- ---- what is said of a name, by its number
 abbrev areBytes : Bytes → Bool
 areBytes [] = true
 areBytes (c ∷ s) = ltb c 256 && areBytes s
@@ -86,30 +86,53 @@ all-bytes [] t i = lit< tt
 all-bytes (c ∷ s) t zero = ltb-true c 256 (and-parts (ltb c 256) (areBytes s) t .0)
 all-bytes (c ∷ s) t (suc i) = all-bytes s (and-parts (ltb c 256) (areBytes s) t .1) i
 
-packed-is : (s : Bytes) → AllBytes s → (ws : List Bytes) → each areBytes ws ≡ true → tagPacked ws (packOf s) ≡ cond (oneOf s ws) (tagOf s) 0
-unfolding tagPacked oneOf
-packed-is s b [] t = refl
-packed-is s b (w ∷ ws) t =
-    let p = and-parts (areBytes w) (each areBytes ws) t in
-    let q = pack-eqb s w b (all-bytes w (p .0)) in
-    by-test (same s w)
-    (λ e. rw (q, e, oneOf) (ap tagOf (sym (same-true s w e))))
-    (λ e. rw (q, e, oneOf) (packed-is s b ws (p .1)))
+-- all of the known names with a length of the range stand in the list: one test that is computed
+abbrev pub listed : List Bytes → (ℕ → Bool) → List Bytes → Bool
+listed names range ws = each areBytes ws && each (λ w. not (range (length w)) || oneOf w ws) names
 
--- all names of a range of lengths stand in the list: one test that is computed
-abbrev pub listed : (ℕ → Bool) → List Bytes → Bool
-listed range ws = each areBytes ws && each (λ w. not (range (length w)) || oneOf w ws) known
+module _ {A : Type 0} (f : Bytes → A) (other : A) where
+  packed-is : (s : Bytes) → AllBytes s → (ws : List Bytes) → each areBytes ws ≡ true → packed f other ws (packOf s) ≡ cond (oneOf s ws) (f s) other
+  unfolding packed oneOf
+  packed-is s b [] t = refl
+  packed-is s b (w ∷ ws) t =
+      let p = and-parts (areBytes w) (each areBytes ws) t in
+      let q = pack-eqb s w b (all-bytes w (p .0)) in
+      by-test (same s w)
+      (λ e. rw (q, e, oneOf) (ap f (sym (same-true s w e))))
+      (λ e. rw (q, e, oneOf) (packed-is s b ws (p .1)))
 
-no-other : (range : ℕ → Bool) (ws : List Bytes) → each (λ w. not (range (length w)) || oneOf w ws) known ≡ true → (s : Bytes) → range (length s) ≡ true → oneOf s ws ≡ false → tagOf s ≡ 0
-no-other range ws t s r e =
-    unknown s (by-test (oneOf s known)
-    (λ k. absurd-test (rw r at (each-at (λ w. not (range (length w)) || oneOf w ws) known t s k)) e)
-    (λ k. k))
+  -- of all names but the known ones f says the same
+  module _ (names : List Bytes) (unlisted : (s : Bytes) → oneOf s names ≡ false → f s ≡ other) (range : ℕ → Bool) (ws : List Bytes) (t : listed names range ws ≡ true) where
+    pub no-other : (s : Bytes) → range (length s) ≡ true → oneOf s ws ≡ false → f s ≡ other
+    no-other s r e =
+        let q = and-parts (each areBytes ws) (each (λ w. not (range (length w)) || oneOf w ws) names) t in
+        unlisted s (by-test (oneOf s names)
+        (λ k. absurd-test (rw r at (each-at (λ w. not (range (length w)) || oneOf w ws) names (q .1) s k)) e)
+        (λ k. k))
 
-pub packed-tag : (range : ℕ → Bool) (ws : List Bytes) → listed range ws ≡ true → (s : Bytes) → AllBytes s → range (length s) ≡ true → {v tag : ℕ} → tag ≡ tagPacked ws v → v ≡ packOf s → tag ≡ tagOf s
-packed-tag range ws t s b r e p =
-    let q = and-parts (each areBytes ws) (each (λ w. not (range (length w)) || oneOf w ws) known) t in
-    e ∙ ap (tagPacked ws) p ∙ packed-is s b ws (q .0) ∙ by-test (oneOf s ws) (λ k. rw k) (λ k. rw k (sym (no-other range ws (q .1) s r k)))
+    pub packed-name : (s : Bytes) → AllBytes s → range (length s) ≡ true → {v : ℕ} {x : A} → x ≡ packed f other ws v → v ≡ packOf s → x ≡ f s
+    packed-name s b r e p =
+        let q = and-parts (each areBytes ws) (each (λ w. not (range (length w)) || oneOf w ws) names) t in
+        e ∙ ap (packed f other ws) p ∙ packed-is s b ws (q .0) ∙ by-test (oneOf s ws) (λ k. rw k) (λ k. rw k (sym (no-other s r k)))
+
+pub packed-tag : (range : ℕ → Bool) (ws : List Bytes) → listed known range ws ≡ true → (s : Bytes) → AllBytes s → range (length s) ≡ true → {v tag : ℕ} → tag ≡ tagPacked ws v → v ≡ packOf s → tag ≡ tagOf s
+packed-tag = packed-name tagOf 0 known unknown
+
+-- ---- a match that has tried the number of each word, and what its last arm knows
+abbrev ruledOut : ℕ → List Bytes → Type 0 → Type 0
+ruledOut v [] T = T
+ruledOut v (w ∷ ws) T = ruledOut v ws (T × (v ≡ packOf w → ⊥))
+
+ruled-before : (v : ℕ) (ws : List Bytes) (T : Type 0) → ruledOut v ws T → T
+ruled-before v [] T h = h
+ruled-before v (w ∷ ws) T h = ruled-before v ws (T × (v ≡ packOf w → ⊥)) h .0
+
+pub packed-none : {A : Type 0} (f : Bytes → A) (other : A) (v : ℕ) (ws : List Bytes) (T : Type 0) → ruledOut v ws T → other ≡ packed f other ws v
+unfolding packed
+packed-none f other v [] T h = refl
+packed-none f other v (w ∷ ws) T h =
+    let more = T × (v ≡ packOf w → ⊥) in
+    rw (ne-eqb v (packOf w) (ruled-before v ws more h .1)) (packed-none f other v ws more h)
 
 -- ---- names of 8 bytes and more
 abbrev longNames : List Bytes
@@ -120,4 +143,4 @@ tag-at s w e p = p ∙ ap tagOf (sym (same-true s w e))
 
 pub long-none : (s : Bytes) → 8 ≤ length s → oneOf s longNames ≡ false → 0 ≡ tagOf s
 unfolding oneOf words codes firstWord otherWords same tagNames
-long-none s h e = sym (no-other (leb 8) longNames refl s (le-leb 8 (length s) h) e)
+long-none s h e = sym (no-other tagOf 0 known unknown (leb 8) longNames refl s (le-leb 8 (length s) h) e)

@@ -11,8 +11,11 @@ unfoldable pub packOf : Bytes → ℕ
 packOf [] = 1
 packOf (c ∷ s) = packOf s * 256 + c
 
--- the tag of the name with this number, if it is one of the list
-unfoldable pub tagPacked : List Bytes → ℕ → ℕ
-unfolding packOf tagOf
-tagPacked [] v = 0
-tagPacked (w ∷ ws) v = cond (eqb v (packOf w)) (tagOf w) (tagPacked ws v)
+-- what f says of the name with this number, if it is one of the list
+unfoldable pub packed : {A : Type 0} → (Bytes → A) → A → List Bytes → ℕ → A
+packed f other [] v = other
+packed f other (w ∷ ws) v = cond (eqb v (packOf w)) (f w) (packed f other ws v)
+
+-- the tag
+abbrev pub tagPacked : List Bytes → ℕ → ℕ
+tagPacked ws v = packed tagOf 0 ws v

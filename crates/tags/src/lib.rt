@@ -135,7 +135,7 @@ fn wide(b: u8) -> u64
 }
 
 // The bytes as one number to base 256, the last one first, behind a 1.
-fn pack(name: &[u8]) -> u64
+pub fn pack(name: &[u8]) -> u64
     requires { ⌜ length (now name) ≤ 7 ⌝ }
     ensures { λ r. ⌜ r ≡ packOf (now (name .entry)) ⌝ }
 {
