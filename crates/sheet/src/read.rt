@@ -48,7 +48,7 @@ fn eight_digits(s: &[u8], at: usize) -> usize
 }
 
 // The number in the width columns at at.
-fn digits_at(s: &[u8], at: usize, width: usize) -> usize
+pub fn digits_at(s: &[u8], at: usize, width: usize) -> usize
     requires { ⌜ (at + width ≤ length (now s)) × (width ≤ 10) × InColumns width (now s) at ⌝ }
     ensures { λ r. ⌜ r ≡ numberAt width (now (s .entry)) at ⌝ }
 {

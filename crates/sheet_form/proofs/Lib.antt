@@ -1,3 +1,4 @@
+pub mod AcceptedSheet
 pub mod DecodeEncode
 pub mod EncodeDecode
 pub mod LineBack

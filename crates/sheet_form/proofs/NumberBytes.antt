@@ -2,22 +2,25 @@
 use mathlib.Core.Path.{_≡_, refl, sym, ap, ap₂, _∙_}
 use mathlib.Core.List.{List, [], _∷_, _++_, append-assoc}
 use Prim.Native.Nat.{ℕ, zero, suc, _+_, _*_, _≤_, _<_}
-use native.Mathlib.Nat.{mul-le-mul-right}
+use native.Mathlib.Nat.{mul-le-mul-right, suc-mul}
 use native.Mathlib.Omega.{arith}
 use lib.ListN.{length, getD, set, take, drop, length-append, length-set}
 use lib.Seq.{sets, sets-eq, take-at, drop-at, drop-append-add, split-at, set-split, length-take-le}
 use Rattle.common.specs.Bytes.{Bytes}
 use Rattle.sheet.specs.Columns.{columns}
-use Rattle.sheet.specs.Layout.{noRow, nodeStart}
+use Rattle.sheet.specs.Layout.{noRow, nodeStart, rowAt}
+use Rattle.sheet.specs.Lines.{numberAt}
 use Rattle.sheet.specs.Notes.{Lined}
 use Rattle.sheet.specs.Writing.{line}
 use Rattle.sheet.specs.declared.line.Layout.{Layout}
 use Rattle.sheet.specs.declared.line.Row.{Row}
+use Rattle.sheet.proofs.LayoutLaws.{row-there}
 use Rattle.sheet.proofs.LinedLaws.{node-room}
 use Rattle.sheet.proofs.WritingColumns.{columns-length, line-length}
 use Rattle.sheet_form.specs.Decoded.{Decoded, rowIn, layoutFor, headerNumbers, rowNumbers, attributeNumbers, rowOfNumbers, withNumber, setNumber}
 use Rattle.sheet_form.specs.Encoding.{lines, encode, listed, decode}
 use Rattle.sheet_form.proofs.EncodeDecode.{of-lined}
+use Rattle.sheet_form.proofs.LineBack.{numbersAt}
 use Rattle.sheet_form.proofs.Lists.{listed-is, lines-length}
 
 -- a part stored over one of its length
@@ -114,3 +117,13 @@ number-set {s} {l} lined i k n h small =
     let b : i < length (decode l s .rows) = rw (ap (λ (x : Layout). x .nodes) e) h in
     ap₂ (λ (t : Bytes) (x : Layout). sets t (nodeStart x i + k * w) (columns w n)) (sym (of-lined lined .bytes)) (sym e)
     ∙ number-bytes w (decode l s) i b k small n
+
+-- ---- a number is read from its own columns
+
+numbers-at : (w : ℕ) (s : Bytes) (at n k : ℕ) → k < n → getD (numbersAt w s at n) k 0 ≡ numberAt w s (at + k * w)
+numbers-at w s at zero k h = absurd (omega arith)
+numbers-at w s at (suc n) zero h = let z : at ≡ at + 0 * w = omega arith in ap (numberAt w s) z
+numbers-at w s at (suc n) (suc k) h = let z : at + w + k * w ≡ at + suc k * w = omega (arith, suc-mul k w) in numbers-at w s (at + w) n k (omega arith) ∙ ap (numberAt w s) z
+
+pub number-read : (s : Bytes) (l : Layout) (i k : ℕ) → i < l .nodes → k < 8 → getD (rowNumbers (rowAt s l i)) k 0 ≡ numberAt (l .width) s (nodeStart l i + k * l .width)
+number-read s l i k h small = ap (λ (r : Row). getD (rowNumbers r) k 0) (row-there s l i h) ∙ numbers-at (l .width) s (nodeStart l i) 8 k small
