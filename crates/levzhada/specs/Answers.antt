@@ -1,9 +1,13 @@
--- An extraction with an option line: 33 comes before the sheet, and changes neither buffer.
+-- Calls with an option line: 33 comes before the sheet, and changes no buffer.
+use mathlib.Core.Bool.{Bool, not}
 use Prim.Native.Nat.{ℕ}
+use lib.Dec.{eqb}
 use Rattle.common.specs.Answer.{Answer, refused}
 use Rattle.common.specs.Bytes.{Bytes}
 use Rattle.common.specs.Refusals.{wrongOptions}
 use Rattle.html2text.specs.Extract as extract
+use Rattle.marking.specs.Answers.{markedOf, sheetAfter}
+use Rattle.marking.specs.Answers as marking
 use Rattle.options.specs.Line.{lineOf}
 use Rattle.options.specs.declared.ExtractOptions.{ExtractOptions}
 use Rattle.options.specs.declared.line.OptionLine.{OptionLine}
@@ -22,3 +26,13 @@ extractOut s line out work = onLine (λ o. outAfterOf s o out work) out (lineOf 
 
 abbrev pub extractWork : Bytes → Bytes → Bytes → Bytes
 extractWork s line work = onLine (λ o. workAfterOf s o work) work (lineOf line)
+
+-- "noscript 0 is off, any other number on"
+abbrev pub isOn : ℕ → Bool
+isOn n = not (eqb n 0)
+
+abbrev pub markNumbers : Bytes → Bytes → ℕ → Answer
+markNumbers s line noscript = onLine (λ o. marking.numbers (markedOf s o (isOn noscript))) (refused wrongOptions 0) (lineOf line)
+
+abbrev pub markSheet : Bytes → Bytes → ℕ → Bytes
+markSheet s line noscript = onLine (λ o. sheetAfter s o (isOn noscript)) s (lineOf line)

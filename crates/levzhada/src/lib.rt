@@ -3,6 +3,7 @@ use common::Answer;
 use links::Rule;
 use numbers::of_extraction;
 use numbers::of_length;
+use numbers::of_marked;
 use numbers::of_matched;
 use numbers::of_relative;
 use numbers::of_verdict;
@@ -19,6 +20,7 @@ use reader::collapse;
 use reader::escape;
 use reader::extract;
 use reader::first_child_of;
+use reader::mark;
 use reader::matches;
 use reader::measure_of;
 use reader::next_sibling_of;
@@ -26,7 +28,8 @@ use reader::parent_of;
 use reader::text_length_of;
 ghost use mathlib.Core.Path.{_≡_};
 ghost use lib.ListN.{length};
-ghost use Rattle.common.specs.Answer.{outAfter, writtenIn};
+ghost use Rattle.common.specs.Answer.{outAfter, refused, writtenIn};
+ghost use Rattle.common.specs.Refusals.{wrongOptions};
 ghost use Rattle.links.specs.Questions.{measureAnswerOf};
 ghost use Rattle.numbers.specs.Values.{linkMeasureOf, rangeOf, ruleOf};
 ghost use Rattle.patterns.specs.Answers.{answerOf};
@@ -37,7 +40,14 @@ ghost use Rattle.tree.specs.Attributes.{attributeOf};
 ghost use Rattle.tree.specs.Questions.{relativeNumbers};
 ghost use Rattle.tree.specs.Rows.{firstChildOf, nextSiblingOf};
 ghost use Rattle.tree.specs.TextLength.{lengthNumbers};
-ghost use Rattle.levzhada.specs.Answers.{extractNumbers, extractOut, extractWork};
+ghost use Rattle.levzhada.specs.Answers.{extractNumbers, extractOut, extractWork, markNumbers, markSheet};
+
+// The answer to a wrong option line, before the sheet is looked at.
+fn wrong_options() -> Answer
+    ensures { λ r. ⌜ r ≡ refused wrongOptions 0 ⌝ }
+{
+    Answer::refused(Answer::WRONG_OPTIONS, 0)
+}
 
 #[no_mangle]
 pub extern "C" fn levzhada_check(sheet: &[u8]) -> Answer
@@ -59,9 +69,21 @@ pub extern "C" fn levzhada_extract(
     ensures cleared { λ r. ⌜ now (work .exit) ≡ extractWork (now (sheet .entry)) (now (options .entry)) (now (work .entry)) ⌝ }
 {
     let OptionLine::Options(o) = read_line(options) else {
-        return Answer::refused(Answer::WRONG_OPTIONS, 0);
+        return wrong_options();
     };
     of_extraction(extract(sheet, o, out, work))
+}
+
+// noscript: 0 is off, any other number on.
+#[no_mangle]
+pub extern "C" fn levzhada_mark(sheet: &mut [u8], options: &[u8], noscript: usize) -> Answer
+    ensures answer { λ r. ⌜ r ≡ markNumbers (now (sheet .entry)) (now (options .entry)) noscript ⌝ }
+    ensures sheet { λ r. ⌜ now (sheet .exit) ≡ markSheet (now (sheet .entry)) (now (options .entry)) noscript ⌝ }
+{
+    let OptionLine::Options(o) = read_line(options) else {
+        return wrong_options();
+    };
+    of_marked(mark(sheet, o, noscript != 0))
 }
 
 #[no_mangle]

@@ -4,6 +4,7 @@ use common::Written;
 use html2text::Extraction;
 use links::Measure;
 use links::questions::MeasureAnswer;
+use marking::Marked;
 use options::line::OptionLine;
 use patterns::Matched;
 use sheet::verdict::Verdict;
@@ -14,6 +15,7 @@ ghost use mathlib.Core.Path.{_≡_};
 ghost use Rattle.common.specs.Answer as common;
 ghost use Rattle.html2text.specs.Extract as html2text;
 ghost use Rattle.links.specs.Questions as measures;
+ghost use Rattle.marking.specs.Answers as marks;
 ghost use Rattle.options.specs.Line as line;
 ghost use Rattle.patterns.specs.Answers as patterns;
 ghost use Rattle.sheet.specs.Verdict as verdict;
@@ -107,6 +109,15 @@ pub fn of_matched(m: Matched) -> Answer
         Matched::Yes => Answer::accepted(1, 0, 0),
         Matched::No => Answer::accepted(0, 0, 0),
         Matched::NoPattern(p) => Answer::refused(Answer::NO_PATTERN, p),
+    }
+}
+
+pub fn of_marked(m: Marked) -> Answer
+    ensures { λ r. ⌜ r ≡ marks.numbers m ⌝ }
+{
+    match m {
+        Marked::Marks(n) => Answer::accepted(0, 0, n),
+        Marked::Refused(v) => of_verdict(v),
     }
 }
 

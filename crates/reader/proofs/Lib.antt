@@ -1,4 +1,5 @@
 pub mod DemandsLaws
 pub mod ExtractionLaws
+pub mod MarkedLaws
 pub mod PagesLaws
 pub mod RustLaws

@@ -1,4 +1,5 @@
 pub mod Demands
 pub mod Extraction
+pub mod Marked
 pub mod Pages
 pub mod Rust

@@ -2,6 +2,7 @@
 use extract::sized::extract_sized;
 use html2text::Extraction;
 pub use links::questions::measure_of;
+pub use marking::mark;
 use options::ExtractOptions;
 pub use patterns::matches;
 use sheet::verdict::Verdict;
@@ -20,6 +21,8 @@ ghost use Rattle.html2text.specs.Extract.{numbers};
 ghost use Rattle.reader.specs.Demands.{Demand1, Demand2, Demand3};
 ghost use Rattle.reader.specs.Extraction.{extractionOf, outAfterOf, workAfterOf};
 ghost use Rattle.reader.specs.Pages.{PagesRight};
+
+pub mod theorems;
 
 // The text of a page, or why there is none.
 pub fn extract(sheet: &[u8], options: ExtractOptions, out: &mut [u8], work: &mut [u8]) -> Extraction

@@ -15,11 +15,11 @@ enum-known-o c = search needs
 enum-told : tie.Need-enum-told
 enum-told c = search needs
 
-refused-requires : tie.Need-refused-requires
-refused-requires c κs = search needs
+wrong-options-requires : tie.Need-wrong-options-requires
+wrong-options-requires c κs = search needs
 
 returns : tie.Need-returns
-returns c = let q = wrong-line _ _ (now (c .before .before .before .before .before .before .before .before .args .out)) (now (c .before .before .before .before .before .before .before .before .args .work)) (sym (c .before .enum-told .given .1) ∙ c .before .before .before .read-line .ensures) (c .refused .ensures) in (q .0, (q .1, q .2))
+returns c = let q = wrong-line _ _ (now (c .before .before .before .before .before .before .before .before .args .out)) (now (c .before .before .before .before .before .before .before .before .args .work)) (sym (c .before .enum-told .given .1) ∙ c .before .before .before .read-line .ensures) (c .wrong-options .ensures) in (q .0, (q .1, q .2))
 
 extract-requires : tie.Need-extract-requires
 extract-requires c κs = search needs
@@ -43,7 +43,7 @@ levzhada-extract-spec =
     read-line-requires
     enum-known-o
     enum-told
-    refused-requires
+    wrong-options-requires
     returns
     extract-requires
     of-extraction-requires

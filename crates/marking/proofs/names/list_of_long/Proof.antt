@@ -1,0 +1,37 @@
+-- `list_of_long` meets its contract.
+use mathlib.Core.Path.{refl, sym, _∙_}
+use denote.Ref.{now}
+use Rattle.common.specs.Bytes.{codes, same}
+use Rattle.tags.specs.Words.{words, firstWord, otherWords, oneOf}
+use Rattle.marking.specs.Lists.{listOf}
+use Rattle.marking.proofs.NameLaws.{list-at, long-none}
+use borrow.Author.Needs.{needs}
+use Rattle.marking.proofs.names.list_of_long.Statement.{statement}
+use Rattle.marking.proofs.names.list_of_long.Tie as tie
+
+pub list-of-long-spec : {M : Type 1} → statement M
+unfolding listOf words firstWord otherWords codes oneOf same
+list-of-long-spec =
+    tie.close
+    (tie.spec
+    (λ c. search needs)
+    (λ c κs. search needs)
+    (λ c. list-at (now (c .before .before .before .before .args .name)) (codes "template") (sym (c .before .same .ensures) ∙ c .if1 .taken) refl)
+    (λ c. search needs)
+    (λ c κs. search needs)
+    (λ c. list-at (now (c .before .before .before .before .before .before .before .args .name)) (codes "noscript") (sym (c .before .same2 .ensures) ∙ c .if2 .taken) refl)
+    (λ c. search needs)
+    (λ c κs. search needs)
+    (λ c. list-at (now (c .before .before .before .before .before .before .before .before .before .before .args .name)) (codes "textarea") (sym (c .before .same3 .ensures) ∙ c .if3 .taken) refl)
+    (λ c. search needs)
+    (λ c κs. search needs)
+    (λ c.
+    list-at (now (c .before .before .before .before .before .before .before .before .before .before .before .before .before .args .name)) (codes "figcaption")
+    (sym (c .before .same4 .ensures) ∙ c .if4 .taken) refl)
+    (λ c.
+    let start = c .before .before .before .before .before .before .before .before .before .before .before .before .before in
+    long-none (now (start .args .name)) (start .pre)
+    (sym (c .before .before .before .before .before .before .before .before .before .before .same .ensures) ∙ c .before .before .before .before .before .before .before .before .before .if1 .left)
+    (sym (c .before .before .before .before .before .before .before .same2 .ensures) ∙ c .before .before .before .before .before .before .if2 .left)
+    (sym (c .before .before .before .before .same3 .ensures) ∙ c .before .before .before .if3 .left)
+    (sym (c .before .same4 .ensures) ∙ c .if4 .left)))
