@@ -19,9 +19,9 @@
 extern "C" {
 #endif
 
-#define LEVZHADA_VERSION "0.1.0"
+#define LEVZHADA_VERSION "0.2.0"
 #define LEVZHADA_VERSION_MAJOR 0
-#define LEVZHADA_VERSION_MINOR 1
+#define LEVZHADA_VERSION_MINOR 2
 #define LEVZHADA_VERSION_PATCH 0
 
 /* The numbers, and what the second number is with each. The header is line 0, row 0 line 1. */
@@ -60,7 +60,7 @@ typedef struct {
     size_t number; /* LEVZHADA_ACCEPTED, or why the call was refused */
     size_t second; /* what goes with the number: a line, a row, a need, .. */
     size_t visits; /* of a text: the passes of the walk */
-    size_t length; /* of a text: its bytes */
+    size_t length; /* of a text: its bytes; of marks: how many were set */
 } levzhada_answer;
 
 /* An attribute's range. */
@@ -120,6 +120,17 @@ levzhada_answer levzhada_matches(size_t pattern, const uint8_t *text, size_t tex
  * work is all zero after 32. */
 levzhada_answer levzhada_extract(const uint8_t *sheet, size_t sheet_length, const uint8_t *options, size_t options_length, uint8_t *out,
                                  size_t out_length, uint8_t *work, size_t work_length);
+
+/* Sets skip to 1, in the sheet itself, on every element below the root whose name stands in the lists that the Rust takes out under
+ * these options: script, style, iframe, frame, template; with alt_texts off object, video, audio, embed, img, area, svg, figcaption,
+ * figure; with noscript off noscript; with form_fields off textarea, input, button, select, option, label. Elements below such ones too;
+ * never the root, nor what stands above or beside it. Names are compared byte for byte: SCRIPT is none of them.
+ * options is the option line, as for levzhada_extract; its other options mark nothing. noscript stands in no line: 0 is off, any other
+ * number on.
+ * length is the number of marks that were set. A row that is marked already stays so and is not counted: the same call again sets
+ * none. Nothing but the skip fields of the rows that are counted changes, and the sheet is accepted as before.
+ * Refused, in this order: 33, the option line is wrong; 11 to 17, the sheet. After a refusal the sheet is unchanged. */
+levzhada_answer levzhada_mark(uint8_t *sheet, size_t sheet_length, const uint8_t *options, size_t options_length, size_t noscript);
 
 /* Each run of blanks as one space: out holds length bytes of text and zeros behind them. 32 with the need, and out unchanged,
  * where out is too short. */

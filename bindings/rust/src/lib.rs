@@ -16,8 +16,10 @@
 //! This is measured (tests/c/stack.c of the repository), not proved, and it is the archive's share.
 
 mod extract;
+mod mark;
 
 pub use extract::{extract, Formatting, Options, Text};
+pub use mark::mark;
 use std::error::Error;
 use std::fmt;
 use std::ops::Range;
@@ -87,6 +89,13 @@ mod raw {
             out_length: usize,
             work: *mut u8,
             work_length: usize,
+        ) -> Answer;
+        pub fn levzhada_mark(
+            sheet: *mut u8,
+            sheet_length: usize,
+            options: *const u8,
+            options_length: usize,
+            noscript: usize,
         ) -> Answer;
         pub fn levzhada_collapse(
             text: *const u8,
