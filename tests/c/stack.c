@@ -159,6 +159,8 @@ static void link_measure(void) { levzhada_measure(bytes(sheet), sheet_length, as
 static void matches(void) { levzhada_matches(asked % 21, bytes(sheet), sheet_length < 10000 ? sheet_length : 10000); }
 static void collapse(void) { levzhada_collapse(bytes(sheet), sheet_length, out, ROOM); }
 static void escape(void) { levzhada_escape(bytes(sheet), sheet_length, out, ROOM); }
+/* with alt_texts off */
+static void mark(void) { levzhada_mark((uint8_t *)sheet, sheet_length, bytes("1010001100\n"), 11, 0); }
 
 /* All formattings, main_content off and on, the other options by chance. */
 static void extractions(size_t *most) {
@@ -186,6 +188,7 @@ static const struct {
     {"levzhada_matches", matches},
     {"levzhada_collapse", collapse},
     {"levzhada_escape", escape},
+    {"levzhada_mark", mark},
 };
 enum { OTHERS = sizeof others / sizeof *others };
 

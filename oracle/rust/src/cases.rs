@@ -82,3 +82,25 @@ pub fn answer(case: &[u8]) -> Answer {
         Err(refusal) => Answer::refused(refusal),
     }
 }
+
+/// FNV-1a.
+fn sum(text: &str) -> u64 {
+    text.bytes().fold(0xcbf29ce484222325, |n, b| (n ^ b as u64).wrapping_mul(0x100000001b3))
+}
+
+/// What the Rust takes out of a page by name, as oracle/marks.c tells it: how many rows it finds below the root that have no mark, and the
+/// rows that it finds or that have one; then visits, length and sum of the text.
+pub fn taken_out(case: &[u8], noscript: bool) -> String {
+    let mut opts = case.get(..11).and_then(options).expect("an option line");
+    opts.noscript = noscript;
+    let mut page = sheet::read(&case[11..]).expect("a sheet");
+    page.by_name = true;
+    let page = page.shared();
+    let Answer { numbers: [_, _, visits, length], text } = extracted(&page, &opts);
+    let found: Vec<usize> = page.found.take().into_iter().filter(|&i| i != page.root).collect();
+    let mut line = found.iter().filter(|&&i| !page.rows[i].marked).count().to_string();
+    for i in found {
+        line += &format!(" {}", i);
+    }
+    format!("{}\ntext {} {} {:016x}\n", line, visits, length, sum(&text))
+}

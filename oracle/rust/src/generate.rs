@@ -882,3 +882,38 @@ pub fn case(seed: u64, number: u64) -> Vec<u8> {
     }
     [&options[..], &sheet].concat()
 }
+
+// ---- cases with names that the Rust takes out
+
+const LISTED: &str = "script style iframe frame template object video audio embed img area svg figcaption figure noscript textarea input \
+                      button select option label";
+const NEARLY_LISTED: &str = "SCRIPT Style iFrame scrip scripts noscriptx xnoscript fram ifram i templates Object videos im imgs are svgs \
+                             s fig figur nos text area2 inputs butto labels opt Label";
+
+/// Case `number` of `generate`, some of its elements but the first with other names. These stand behind the pool; all else is as it was.
+pub fn listed_case(seed: u64, number: u64) -> Vec<u8> {
+    let mut case = case(seed, number);
+    let random = &mut Random(!seed.wrapping_mul(0x2545F4914F6CDD1D) ^ number);
+    random.next();
+    let sheet = &mut case[11..];
+    let field = |at: usize, sheet: &[u8]| -> usize { std::str::from_utf8(&sheet[at..at + 8]).unwrap().trim_start().parse().unwrap() };
+    let (rows, pool) = (field(0, sheet), field(16, sheet));
+    let names = format!("{} {}", LISTED, NEARLY_LISTED);
+    let percent = *random.one(&[5, 20, 60]);
+    for i in 1..rows {
+        let row = 33 + 65 * i;
+        if field(row + 8, sheet) == sheet::ELEMENT && random.percent(percent) {
+            let list = if random.percent(80) { LISTED } else { NEARLY_LISTED };
+            let name = random.word(list);
+            // wherever it stands, in a longer name too
+            let at = names.match_indices(name).map(|(at, _)| at).nth(random.below(names.matches(name).count())).unwrap();
+            sheet[row + 24..row + 40].copy_from_slice(format!("{:8}{:8}", pool + at, name.len()).as_bytes());
+        }
+    }
+    sheet[16..24].copy_from_slice(format!("{:8}", pool + names.len()).as_bytes());
+    case.extend(names.as_bytes());
+    if let Err(refusal) = sheet::read(&case[11..]) {
+        panic!("case {}: {:?}", number, refusal);
+    }
+    case
+}

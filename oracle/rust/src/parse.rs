@@ -106,19 +106,21 @@ pub mod html {
                 }
             }
 
-            /// What the list of selectors is asked of: the marked rows, the root's own mark included.
+            /// What the list of selectors is asked of: the marked rows, the root's own mark included; in a page that is asked by name also
+            /// the elements below the root whose name is one of the selectors.
             pub struct ParentNodeRef<'a>(&'a Node);
 
             impl ParentNodeRef<'_> {
                 pub fn query_selector_all(&self, selectors: &str) -> Result<NodeList, CssParserError> {
                     assert!(selectors.starts_with("script,style,iframe,frame,template"), "{}", selectors);
+                    assert!(selectors.bytes().all(|b| b.is_ascii_lowercase() || b == b','), "{}", selectors);
                     let Node { page, row } = self.0;
-                    Ok(NodeList(
-                        (*row..page.rows[*row].past)
-                            .filter(|&i| page.rows[i].marked)
-                            .map(|row| Node { page: page.clone(), row })
-                            .collect(),
-                    ))
+                    let names: Vec<&str> = if page.by_name { selectors.split(',').collect() } else { vec![] };
+                    let is_named = |i: usize| i > *row && page.rows[i].kind == ELEMENT && names.contains(&&*page.rows[i].name);
+                    let found: Vec<usize> = (*row..page.rows[*row].past).filter(|&i| page.rows[i].marked || is_named(i)).collect();
+                    let nodes = found.iter().map(|&row| Node { page: page.clone(), row }).collect();
+                    page.found.replace(found);
+                    Ok(NodeList(nodes))
                 }
             }
 

@@ -1,6 +1,6 @@
 //! A sheet, read as document 01 has it, and the tree that it holds.
 
-use std::cell::Cell;
+use std::cell::{Cell, RefCell};
 use std::rc::Rc;
 
 pub const ELEMENT: usize = 1;
@@ -26,6 +26,10 @@ pub struct Page {
     pub root: usize,
     /// The passes of the walk's loop (parse.rs).
     pub passes: Cell<usize>,
+    /// Whether the list of selectors finds rows by their names, and not the marked ones alone.
+    pub by_name: bool,
+    /// The rows that the list of selectors found last.
+    pub found: RefCell<Vec<usize>>,
 }
 
 /// A number and a second number of document 01.
@@ -157,7 +161,7 @@ pub fn read(sheet: &[u8]) -> Result<Page, Refusal> {
         used += r[ATTRIBUTES];
     }
     relate(&mut rows);
-    Ok(Page { rows, root, passes: Cell::new(0) })
+    Ok(Page { rows, root, passes: Cell::new(0), by_name: false, found: RefCell::default() })
 }
 
 fn relate(rows: &mut [Row]) {
