@@ -1,16 +1,16 @@
 -- A sheet that was marked.
 use mathlib.Core.Path.{_≡_, refl, sym, ap, ap₂, _∙_, subst}
-use mathlib.Core.Bool.{Bool, true, false, _&&_, _||_, cond}
+use mathlib.Core.Bool.{Bool, true, false, _&&_, _||_}
 use mathlib.Core.List.{List, [], _∷_}
 use mathlib.Core.Logic.{_↔_}
 use Prim.Native.Nat.{ℕ, zero, suc, _+_, _*_, _≤_, _<_}
 use native.Mathlib.Omega.{arith}
-use lib.Dec.{eqb, ltb, lit<}
+use lib.Dec.{eqb, ltb}
 use lib.ListN.{length, getD, set}
 use lib.Seq.{sets, getD-set-other}
 use borrow.Author.Tests.{eqb-true, eqb-false, eq-eqb, ltb-true, lt-ltb}
 use Rattle.common.specs.Bytes.{Bytes}
-use Rattle.common.proofs.Choice.{by-test, absurd-test, and-parts, and-both}
+use Rattle.common.proofs.Choice.{by-test, and-parts, and-both}
 use Rattle.options.specs.declared.ExtractOptions.{ExtractOptions}
 use Rattle.sheet.specs.Columns.{columns}
 use Rattle.sheet.specs.Column.{parentOf}
@@ -24,20 +24,18 @@ use Rattle.sheet.proofs.WritingColumns.{columns-length}
 use Rattle.sheet_form.specs.Decoded.{Decoded, rowIn, rangeIn, depthsIn}
 use Rattle.sheet_form.specs.Encoding.{encode, decode}
 use Rattle.sheet_form.specs.Marks.{ButMarks, setSkip}
-use Rattle.sheet_form.specs.Pages.{pageIn, nodeIn}
-use Rattle.sheet_form.specs.Right.{Right}
 use Rattle.sheet_form.proofs.AcceptedSheet.{Decodes, decodes, remarked}
 use Rattle.sheet_form.proofs.Marking.{depths-same}
 use Rattle.sheet_form.proofs.NumberBytes.{number-set}
 use Rattle.tags.specs.Words.{oneOf}
 use Rattle.tree.specs.Forest.{Descendant}
-use Rattle.tree.specs.Page.{Page, kindOf, pageOf}
+use Rattle.tree.specs.Page.{Page, pageOf}
 use Rattle.tree.specs.Rows.{pastOf}
 use Rattle.tree.proofs.PageLaws.{is-element, not-element, name-is}
 use Rattle.tree.proofs.PastLaws.{past-of-high}
 use Rattle.tree.proofs.SheetLaws.{sheet-is-tree}
-use Rattle.marking.specs.Answers.{markedOf, sheetAfter}
-use Rattle.marking.specs.Marks.{isBelowRoot, isListed, toMark, isNew, marked, marks}
+use Rattle.marking.specs.Answers.{sheetAfter}
+use Rattle.marking.specs.Marks.{isListed, toMark, isNew, marked, marks}
 use Rattle.marking.specs.Names.{skipNames}
 use Rattle.marking.specs.Theorems.{InSkipOf, Chosen, SheetMarked}
 use Rattle.marking.specs.declared.Marked.the-variants.{Marks}

@@ -1,10 +1,9 @@
 -- The rows below the root are marked one after the other, in the sheet's own bytes.
 use mathlib.Core.Path.{_≡_, refl, sym, ap, ap₂, _∙_, subst}
-use mathlib.Core.Bool.{Bool, true, false, _&&_, cond}
-use mathlib.Core.List.{List}
+use mathlib.Core.Bool.{Bool, false, cond}
 use Prim.Native.Nat.{ℕ, _+_, _≤_, _<_}
 use native.Mathlib.Omega.{arith}
-use lib.Dec.{eqb, ltb}
+use lib.Dec.{ltb}
 use lib.ListN.{length, getD, drop}
 use borrow.Author.Tests.{eq-eqb, ne-eqb, lt-ltb, le-ltb}
 use Rattle.common.specs.Bytes.{Bytes}
@@ -23,8 +22,8 @@ use Rattle.tags.specs.Words.{oneOf}
 use Rattle.tree.specs.Rows.{pastFrom, pastOf}
 use Rattle.tree.proofs.PastLaws.{past-low}
 use Rattle.tree.proofs.Scans.{past-start, past-stop, past-more, past-done}
-use Rattle.marking.specs.Inner.{NameInside, isNewAt, markedAt}
-use Rattle.marking.specs.Marks.{isListed, isNewRow, toMark, isNew, marked, marksTo, marks}
+use Rattle.marking.specs.Inner.{NameInside, isNewRow, isNewAt, markedAt}
+use Rattle.marking.specs.Marks.{isListed, toMark, isNew, marked, marksTo, marks}
 use Rattle.marking.specs.Names.{skipNames}
 use Rattle.marking.proofs.MarkLaws.{markedTo, to-but-marks, to-new, to-old, to-none, to-all, row-ahead, marks-next, not-new, marks-none, marks-all, marks-small}
 

@@ -7,7 +7,6 @@ use lib.ListN.{length}
 use Rattle.common.specs.Bytes.{codes}
 use Rattle.options.specs.Options.{standing, withAltTexts, withFormFields}
 use Rattle.options.specs.declared.ExtractOptions.{ExtractOptions}
-use Rattle.sheet.specs.declared.line.Attribute.{Attribute}
 use Rattle.sheet.specs.declared.line.Row.{Row}
 use Rattle.sheet_form.specs.Decoded.{Decoded}
 use Rattle.marking.specs.Marks.{toMark}

@@ -21,10 +21,6 @@ module _ (o : ExtractOptions) (noscript : Bool) (d : Decoded) where
   unfoldable pub isListed : Row → Bool
   isListed r = eqb (r .kind) 1 && oneOf (rangeIn d (r .«name_at») (r .«name_len»)) (skipNames o noscript)
 
-  -- one that has no mark
-  unfoldable pub isNewRow : Row → Bool
-  isNewRow r = isListed r && eqb (r .skip) 0
-
   -- "every row below the root whose name stands in the fixed lists"
   unfoldable pub toMark : ℕ → Bool
   toMark i = isBelowRoot i && isListed (rowIn d i)
