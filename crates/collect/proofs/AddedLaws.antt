@@ -1,6 +1,6 @@
 -- What a visit adds, by the tests that choose it.
 use mathlib.Core.Path.{_≡_, refl, sym, ap, _∙_}
-use mathlib.Core.Bool.{Bool, true, false, _&&_, _||_, not, cond}
+use mathlib.Core.Bool.{Bool, true, false, _&&_, _||_, not, cond, and-false}
 use mathlib.Core.List.{[], _∷_, _++_}
 use Prim.Native.Nat.{ℕ, _+_, _≤_}
 use native.Mathlib.Omega.{arith}
@@ -8,7 +8,7 @@ use lib.Dec.{eqb}
 use lib.ListN.{length, take, drop}
 use borrow.Author.Tests.{eqb-true, eqb-false}
 use Rattle.common.specs.Bytes.{Bytes, codes, same, isEmpty}
-use Rattle.common.proofs.Choice.{by-test, and-parts, and-false, absurd-test}
+use Rattle.common.proofs.Choice.{by-test, and-parts, absurd-test}
 use Rattle.options.specs.Options.{isBasic, isMinimalHtml}
 use Rattle.options.specs.declared.ExtractOptions.{ExtractOptions}
 use Rattle.options.specs.declared.Formatting.{Formatting}

@@ -1,7 +1,7 @@
 -- Tests joined by or and by and, and a choice by a test: what an outcome says of the whole.
 use mathlib.Core.Path.{_≡_, refl, sym, ap, _∙_}
 use mathlib.Core.Bool.{Bool, true, false, _&&_, _||_, cond}
-use Rattle.common.proofs.Choice.{absurd-test}
+use Rattle.common.proofs.Choice.{chosen, other, absurd-test}
 
 pub or-left : (a b : Bool) → a ≡ true → (a || b) ≡ true
 or-left true b e = refl
@@ -35,7 +35,7 @@ pub and-yes : {a r : Bool} (b : Bool) → a ≡ true → r ≡ b → r ≡ (a &&
 and-yes b e h = h ∙ sym (ap (λ (q : Bool). q && b) e)
 
 pub cond-yes : {a r x : Bool} (y : Bool) → a ≡ true → r ≡ x → r ≡ cond a x y
-cond-yes {x = x} y e h = h ∙ sym (ap (λ (q : Bool). cond q x y) e)
+cond-yes {a} {x = x} y e h = h ∙ chosen a x y e
 
 pub cond-no : {a r y : Bool} (x : Bool) → a ≡ false → r ≡ y → r ≡ cond a x y
-cond-no {y = y} x e h = h ∙ sym (ap (λ (q : Bool). cond q x y) e)
+cond-no {a} {y = y} x e h = h ∙ other a x y e

@@ -1,9 +1,10 @@
 -- A sheet before and after it is marked is alike but for further marks.
-use mathlib.Core.Path.{_≡_, refl, sym, _∙_}
-use mathlib.Core.Bool.{Bool, true, false, _||_}
+use mathlib.Core.Path.{_≡_, sym, _∙_}
+use mathlib.Core.Bool.{Bool}
 use mathlib.Core.Logic.{inr}
 use Rattle.common.specs.Bytes.{Bytes}
 use Rattle.common.proofs.Choice.{absurd-test}
+use Rattle.common.proofs.TestLaws.{or-right, or-cases}
 use Rattle.html2text.specs.Demand3.{AlikeButMarks}
 use Rattle.marking.specs.Theorems.{chosen, SheetMarked}
 use Rattle.marking.proofs.MarkedSheet.{sheet-marked}
@@ -14,14 +15,6 @@ use Rattle.sheet.specs.declared.verdict.Verdict.the-variants.{Sheet}
 use Rattle.tree.specs.Page.{pageOf}
 use Rattle.reader.specs.Marked.{after, MarkedTexts}
 use Rattle.reader.proofs.DemandsLaws.{demand-3}
-
-or-right : (a b : Bool) → b ≡ true → (a || b) ≡ true
-or-right true b e = refl
-or-right false b e = e
-
-chosen-new : (a b : Bool) → (a || b) ≡ true → b ≡ false → a ≡ true
-chosen-new true b e f = refl
-chosen-new false b e f = absurd-test e f
 
 module _ (s : Bytes) (l : Layout) (by : ExtractOptions) (noscript : Bool) (e : verdict s ≡ Sheet l) where
   m : SheetMarked s l by noscript
@@ -35,7 +28,7 @@ module _ (s : Bytes) (l : Layout) (by : ExtractOptions) (noscript : Bool) (e : v
         size = m .size;
         same = λ k out. m .bytes k (λ i h new x. out (record { row = i; there = h; from = x .from; to = x .to }));
         kept = λ i h old. m .marks i h ∙ or-right (chosen s l by noscript i) _ old;
-        below = λ i h old new. inr (m .rows i h .0 (chosen-new (chosen s l by noscript i) (pageOf s l .marked i) (sym (m .marks i h) ∙ new) old) .below);
+        below = λ i h old new. inr (m .rows i h .0 (or-cases (chosen s l by noscript i) (pageOf s l .marked i) (λ x. x) (λ x. absurd-test x old) (sym (m .marks i h) ∙ new)) .below);
       }
 
 pub marked-texts : MarkedTexts
