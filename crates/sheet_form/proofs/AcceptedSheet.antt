@@ -88,7 +88,7 @@ module _ {s : Bytes} {l : Layout} {d x : Decoded} (a : Decodes s l d) (r : Right
   fits : Fits w x
   fits =
       let power : 10 ^ w ≡ 10 ^ 8 = ap (λ (n : ℕ). 10 ^ n) (a .width) in
-      let small : 4194304 < 10 ^ 8 = lit< tt in
+      let small : poolLimit 8 < 10 ^ 8 = lit< tt in
       right-fits r (omega (arith, a .width)) (omega (arith, a .width)) (omega (arith, pool-same, power, small))
 
   pub encode-decodes : Decodes (encode w x) l x
