@@ -14,7 +14,7 @@ use Rattle.tags.specs.Packed.{packOf, packed}
 use Rattle.tags.specs.Words.{words, firstWord, otherWords, is, oneOf}
 use Rattle.tags.proofs.PackLaws.{AllBytes, listed, packed-name, no-other}
 use Rattle.tags.proofs.WordLaws.{each, each-at, by-words, none-of, none-of-none}
-use Rattle.marking.specs.Lists.{listOf}
+use Rattle.marking.specs.Lists.{listOf, shortNames}
 use Rattle.marking.specs.Names.{always, media, scriptless, fields, unless, skipNames}
 use Rattle.marking.specs.declared.names.SkipList.{SkipList}
 use Rattle.marking.specs.declared.names.SkipList.the-variants.{Always, Media, Noscript, Fields, Unlisted}
@@ -30,9 +30,6 @@ not-in ws t name h = by-test (oneOf name ws) (λ e. absurd-test (each-at (λ w. 
 unlisted : (name : Bytes) → oneOf name known ≡ false → listOf name ≡ Unlisted
 unfolding listOf words firstWord otherWords codes oneOf same
 unlisted name h = simp (not-in always refl name h, not-in media refl name h, not-in scriptless refl name h, not-in fields refl name h)
-
-abbrev pub shortNames : List Bytes
-shortNames = words "script style iframe frame object video audio embed img area svg figure input button select option label"
 
 pub short-list : (name : Bytes) → AllBytes name → length name ≤ 7 → {v : ℕ} {l : SkipList} → l ≡ packed listOf Unlisted shortNames v → v ≡ packOf name → l ≡ listOf name
 unfolding words firstWord otherWords codes oneOf same

@@ -5,8 +5,8 @@ ghost use mathlib.Core.Path.{_≡_};
 ghost use Prim.Native.Nat.{_≤_};
 ghost use lib.ListN.{length};
 ghost use Rattle.tags.specs.Packed.{packed};
-ghost use Rattle.tags.specs.Words.{oneOf, words};
-ghost use Rattle.marking.specs.Lists.{listOf};
+ghost use Rattle.tags.specs.Words.{oneOf};
+ghost use Rattle.marking.specs.Lists.{listOf, shortNames};
 ghost use Rattle.marking.specs.Names.{skipNames};
 ghost use Rattle.marking.specs.declared.names.SkipList.the-variants.{Unlisted};
 
@@ -21,7 +21,7 @@ pub enum SkipList {
 
 // Names of up to 7 bytes.
 fn list_of_seven(v: u64) -> SkipList
-    ensures { λ r. ⌜ r ≡ packed listOf Unlisted (words "script style iframe frame object video audio embed img area svg figure input button select option label") v ⌝ }
+    ensures { λ r. ⌜ r ≡ packed listOf Unlisted shortNames v ⌝ }
 {
     match v {
         // script

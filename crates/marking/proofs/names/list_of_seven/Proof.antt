@@ -3,9 +3,8 @@ use Rattle.common.specs.Bytes.{codes, same}
 use Rattle.tags.specs.Packed.{packOf, packed}
 use Rattle.tags.specs.Words.{words, firstWord, otherWords, oneOf}
 use Rattle.tags.proofs.PackLaws.{packed-none}
-use Rattle.marking.specs.Lists.{listOf}
+use Rattle.marking.specs.Lists.{listOf, shortNames}
 use Rattle.marking.specs.declared.names.SkipList.the-variants.{Unlisted}
-use Rattle.marking.proofs.NameLaws.{shortNames}
 use Rattle.marking.proofs.names.list_of_seven.Statement.{statement}
 use Rattle.marking.proofs.names.list_of_seven.Tie as tie
 
