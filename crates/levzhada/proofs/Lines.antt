@@ -31,8 +31,10 @@ module _ (s line out work : Bytes) where
 
 module _ (s line : Bytes) (noscript : ℕ) where
   pub marked-by-line : {o : ExtractOptions} {m : Marked} {a : Answer} {s′ : Bytes} → Options o ≡ lineOf line → a ≡ marking.numbers m
-      → (m ≡ markedOf s o (isOn noscript)) × (s′ ≡ sheetAfter s o (isOn noscript)) → (a ≡ markNumbers s line noscript) × (s′ ≡ markSheet s line noscript)
+      → (m ≡ markedOf s o (isOn noscript)) × (s′ ≡ sheetAfter s o (isOn noscript))
+      → (a ≡ markNumbers s line noscript) × (s′ ≡ markSheet s line noscript)
   marked-by-line l n x = (rw (← l) (n ∙ ap marking.numbers (x .0)), rw (← l) (x .1))
 
-  pub unmarked-line : {a : Answer} → Wrong ≡ lineOf line → a ≡ refused wrongOptions 0 → (a ≡ markNumbers s line noscript) × (s ≡ markSheet s line noscript)
+  pub unmarked-line : {a : Answer} → Wrong ≡ lineOf line → a ≡ refused wrongOptions 0
+      → (a ≡ markNumbers s line noscript) × (s ≡ markSheet s line noscript)
   unmarked-line l n = (rw (← l) n, rw (← l))

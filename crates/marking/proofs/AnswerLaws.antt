@@ -27,7 +27,8 @@ module _ (s : Bytes) (o : ExtractOptions) (noscript : Bool) where
   pub marked-refused : {v : Verdict} → v ≡ verdict s → NotSheet v → Promised (Refused v) s
   unfolding markedOf sheetAfter
   marked-refused {v} e k =
-      promised (rw (← e) (sym (on-sheet-refused _ Refused v (not-sheet v k)))) (rw (← e) (sym (on-sheet-refused _ (λ x. s) v (not-sheet v k))))
+      promised (rw (← e) (sym (on-sheet-refused _ Refused v (not-sheet v k))))
+      (rw (← e) (sym (on-sheet-refused _ (λ x. s) v (not-sheet v k))))
 
   module _ {l : Layout} (e : verdict s ≡ Sheet l) where
     pub answer-is : markedOf s o noscript ≡ Marks (marks o noscript (decode l s))
@@ -38,5 +39,6 @@ module _ (s : Bytes) (o : ExtractOptions) (noscript : Bool) where
     unfolding sheetAfter
     after-is = rw e
 
-    pub marked-sheet : {n : ℕ} {t : Bytes} → (n ≡ marks o noscript (decode l s)) × (t ≡ encode (l .width) (marked o noscript (decode l s))) → Promised (Marks n) t
+    pub marked-sheet : {n : ℕ} {t : Bytes} → (n ≡ marks o noscript (decode l s)) × (t ≡ encode (l .width) (marked o noscript (decode l s)))
+        → Promised (Marks n) t
     marked-sheet x = promised (ap Marks (x .0) ∙ sym answer-is) (x .1 ∙ sym after-is)

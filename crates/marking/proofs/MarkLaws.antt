@@ -61,7 +61,8 @@ module _ (o : ExtractOptions) (noscript : Bool) (d : Decoded) where
   marked-not i e = ap (λ (b : Bool). cond b (withSkip 1 (rowIn d i)) (rowIn d i)) e
 
   -- two lists of marked rows that are the same row by row
-  to-same : (e : Decoded) (i : ℕ) → length (e .rows) ≡ n → ((j : ℕ) → j < n → rowIn (markedTo i) j ≡ rowIn e j) → with-rows (e .rows) ≡ markedTo i
+  to-same : (e : Decoded) (i : ℕ) → length (e .rows) ≡ n → ((j : ℕ) → j < n → rowIn (markedTo i) j ≡ rowIn e j)
+      → with-rows (e .rows) ≡ markedTo i
   unfolding markedTo with-rows
   to-same e i size same =
       ap (λ (rows : List Row). record { rows = rows; attributes = d .attributes; pool = d .pool; root = d .root })
@@ -90,7 +91,9 @@ module _ (o : ExtractOptions) (noscript : Bool) (d : Decoded) where
         let h = ltb-true j n t in
         let small = right .kind j h .mark in
         subst (λ (r : Row). r .skip ≤ 1) (sym (row-to i j h))
-        (by-cond (λ (r : Row). r .skip ≤ 1) (ltb j i) (λ e. by-cond (λ (r : Row). r .skip ≤ 1) (toMark o noscript d j) (λ f. omega arith) (λ f. small)) (λ e. small)))
+        (by-cond (λ (r : Row). r .skip ≤ 1) (ltb j i)
+        (λ e. by-cond (λ (r : Row). r .skip ≤ 1) (toMark o noscript d j) (λ f. omega arith) (λ f. small))
+        (λ e. small)))
         (λ t. rw (row-past i j (ltb-false j n t)) (omega arith))
 
     pub to-but-marks : (i : ℕ) → ButMarks d (markedTo i)
@@ -104,10 +107,13 @@ module _ (o : ExtractOptions) (noscript : Bool) (d : Decoded) where
     -- ---- one row more
 
     next-side : (i j : ℕ) → (j ≡ i → ⊥) → ltb j (i + 1) ≡ ltb j i
-    next-side i j other = by-test (ltb j i) (λ t. lt-ltb j (i + 1) (omega (arith, ltb-true j i t)) ∙ sym t) (λ t. le-ltb j (i + 1) (omega (arith, ltb-false j i t)) ∙ sym t)
+    next-side i j other =
+        by-test (ltb j i) (λ t. lt-ltb j (i + 1) (omega (arith, ltb-true j i t)) ∙ sym t)
+        (λ t. le-ltb j (i + 1) (omega (arith, ltb-false j i t)) ∙ sym t)
 
     other-row : (i j : ℕ) → j < n → (j ≡ i → ⊥) → rowIn (markedTo (i + 1)) j ≡ rowIn (markedTo i) j
-    other-row i j k other = row-to (i + 1) j k ∙ ap (λ (b : Bool). cond b (markedRow o noscript d j) (rowIn d j)) (next-side i j other) ∙ sym (row-to i j k)
+    other-row i j k other =
+        row-to (i + 1) j k ∙ ap (λ (b : Bool). cond b (markedRow o noscript d j) (rowIn d j)) (next-side i j other) ∙ sym (row-to i j k)
 
     pub to-new : (i : ℕ) → i < n → isNew o noscript d i ≡ true → setSkip i 1 (markedTo i) ≡ markedTo (i + 1)
     unfolding setNumber with-rows markedTo
@@ -191,7 +197,8 @@ module _ (o : ExtractOptions) (noscript : Bool) (d : Decoded) where
 
   marks-ahead : (i k : ℕ) → ((j : ℕ) → i ≤ j → toMark o noscript d j ≡ false) → marksTo o noscript d (i + k) ≡ marksTo o noscript d i
   marks-ahead i zero none = ap (marksTo o noscript d) (add-zero i)
-  marks-ahead i (suc k) none = ap (marksTo o noscript d) (add-suc i k) ∙ marks-same (i + k) (not-new (i + k) (none (i + k) (omega arith))) ∙ marks-ahead i k none
+  marks-ahead i (suc k) none =
+      ap (marksTo o noscript d) (add-suc i k) ∙ marks-same (i + k) (not-new (i + k) (none (i + k) (omega arith))) ∙ marks-ahead i k none
 
   pub marks-all : (i : ℕ) → i ≤ n → ((j : ℕ) → i ≤ j → toMark o noscript d j ≡ false) → marksTo o noscript d i ≡ marks o noscript d
   marks-all i h none = let e : i + (n - i) ≡ n = omega arith in sym (ap (marksTo o noscript d) (sym e) ∙ marks-ahead i (n - i) none)
@@ -205,5 +212,6 @@ module _ (o : ExtractOptions) (noscript : Bool) (d : Decoded) where
   pub marked-none : Right d → ((j : ℕ) → j < n → isNew o noscript d j ≡ false) → marked o noscript d ≡ d
   unfolding with-rows marked
   marked-none right none =
-      to-same (marked o noscript d) 0 (listed-length (markedRow o noscript d) 0 n) (λ j k. row-ahead 0 j (omega arith) k ∙ sym (marked-at j k ∙ marked-old right j k (none j k)))
+      to-same (marked o noscript d) 0 (listed-length (markedRow o noscript d) 0 n)
+      (λ j k. row-ahead 0 j (omega arith) k ∙ sym (marked-at j k ∙ marked-old right j k (none j k)))
       ∙ sym (to-none 0 (λ j h. absurd (omega arith)))

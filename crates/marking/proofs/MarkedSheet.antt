@@ -62,18 +62,22 @@ module _ (o : ExtractOptions) (noscript : Bool) (s : Bytes) (l : Layout) (a : De
   m = marked o noscript d
 
   -- the columns that a mark is set in
-  one-mark : (i k : ℕ) → i < l .nodes → isNew o noscript d i ≡ true → (InSkipOf l i k → ⊥) → getD (sheetTo o noscript s l (i + 1)) k 0 ≡ getD (sheetTo o noscript s l i) k 0
+  one-mark : (i k : ℕ) → i < l .nodes → isNew o noscript d i ≡ true → (InSkipOf l i k → ⊥)
+      → getD (sheetTo o noscript s l (i + 1)) k 0 ≡ getD (sheetTo o noscript s l i) k 0
   one-mark i k h e out =
       let b = to-decodes o noscript s l a i in
       let t = sheetTo o noscript s l i in
       let stored = number-set (b .lined) i 2 1 h (omega arith) in
       let next : encode w (setSkip i 1 (decode l t)) ≡ sheetTo o noscript s l (i + 1) =
-      ap (λ (x : Decoded). encode w (setSkip i 1 x)) (b .decoded) ∙ ap (encode w) (to-new o noscript d (a .right) i (omega (arith, a .size)) e) in
+      ap (λ (x : Decoded). encode w (setSkip i 1 x)) (b .decoded)
+      ∙ ap (encode w) (to-new o noscript d (a .right) i (omega (arith, a .size)) e) in
       ap (λ (x : Bytes). getD x k 0) (sym (stored ∙ next))
       ∙ sets-other (columns w 1) t (nodeStart l i + 2 * w) k (λ p q. out (record { from = p; to = omega (arith, columns-length w 1) }))
 
-  bytes-to : (i k : ℕ) → i ≤ l .nodes → ((j : ℕ) → j < l .nodes → isNew o noscript d j ≡ true → InSkipOf l j k → ⊥) → getD (sheetTo o noscript s l i) k 0 ≡ getD s k 0
-  bytes-to zero k h out = ap (λ (x : Bytes). getD x k 0) (sym (sym (a .bytes) ∙ ap (encode w) (to-none o noscript d 0 (λ j q. absurd (omega arith)))))
+  bytes-to : (i k : ℕ) → i ≤ l .nodes → ((j : ℕ) → j < l .nodes → isNew o noscript d j ≡ true → InSkipOf l j k → ⊥)
+      → getD (sheetTo o noscript s l i) k 0 ≡ getD s k 0
+  bytes-to zero k h out =
+      ap (λ (x : Bytes). getD x k 0) (sym (sym (a .bytes) ∙ ap (encode w) (to-none o noscript d 0 (λ j q. absurd (omega arith)))))
   bytes-to (suc i) k h out =
       let next : suc i ≡ i + 1 = omega arith in
       ap (λ (n : ℕ). getD (sheetTo o noscript s l n) k 0) next
@@ -107,7 +111,10 @@ module _ (o : ExtractOptions) (noscript : Bool) (s : Bytes) (l : Layout) (a : De
       ∙ ap (λ (r : Row). eqb (r .skip) 1) (marked-at o noscript d i (there h))
       ∙ by-test (toMark o noscript d i)
       (λ t. ap (λ (r : Row). eqb (r .skip) 1) (marked-there o noscript d i t) ∙ ap (λ (b : Bool). b || pageOf s l .marked i) (sym t))
-      (λ t. ap (λ (r : Row). eqb (r .skip) 1) (marked-not o noscript d i t) ∙ ap (λ (p : Page). p .marked i) (sym (a .page)) ∙ ap (λ (b : Bool). b || pageOf s l .marked i) (sym t))
+      (λ t.
+      ap (λ (r : Row). eqb (r .skip) 1) (marked-not o noscript d i t)
+      ∙ ap (λ (p : Page). p .marked i) (sym (a .page))
+      ∙ ap (λ (b : Bool). b || pageOf s l .marked i) (sym t))
 
   -- ---- again
 
@@ -155,7 +162,10 @@ module _ (o : ExtractOptions) (noscript : Bool) {s : Bytes} {l : Layout} (a : De
   pool-same = refl
 
   name-same : pageOf s l .node i .name ≡ rangeIn x (r .«name_at») (r .«name_len»)
-  name-same = name-is s l i (a .row i h) ∙ range-in-pool s l (r .«name_at») (r .«name_len») ∙ ap (λ (pool : Bytes). partOf pool (r .«name_at») (r .«name_len»)) pool-same
+  name-same =
+      name-is s l i (a .row i h)
+      ∙ range-in-pool s l (r .«name_at») (r .«name_len»)
+      ∙ ap (λ (pool : Bytes). partOf pool (r .«name_at») (r .«name_len»)) pool-same
 
   pub row-chosen : (toMark o noscript x i ≡ true) ↔ Chosen (pageOf s l) o noscript i
   unfolding toMark isListed
@@ -167,15 +177,21 @@ module _ (o : ExtractOptions) (noscript : Bool) {s : Bytes} {l : Layout} (a : De
         let q = and-parts (ltb (x .root) i) (ltb i (pastOf (depthsIn x) (x .root))) (p .0) in
         let k = and-parts (eqb (r .kind) 1) name (p .1) in
         record {
-          below = descendant .1 (omega (arith, ltb-true (x .root) i (q .0), a .root), omega (arith, ltb-true i (pastOf (depthsIn x) (x .root)) (q .1), past-same));
+          below =
+              let before = ltb-true (x .root) i (q .0) in
+              let past = ltb-true i (pastOf (depthsIn x) (x .root)) (q .1) in
+              descendant .1 (omega (arith, before, a .root), omega (arith, past, past-same));
           element = is-element s l i (a .row i h) (eqb-true (r .kind) 1 (k .0));
           name = ap (λ (b : Bytes). oneOf b (skipNames o noscript)) name-same ∙ k .1;
         },
     λ c.
         let b = descendant .0 (c .below) in
-        let kind : r .kind ≡ 1 = by-test (eqb (r .kind) 1) (λ t. eqb-true (r .kind) 1 t) (λ t. absurd (not-element s l i (a .row i h) (eqb-false (r .kind) 1 t) (c .element))) in
+        let kind : r .kind ≡ 1 =
+        by-test (eqb (r .kind) 1) (λ t. eqb-true (r .kind) 1 t)
+        (λ t. absurd (not-element s l i (a .row i h) (eqb-false (r .kind) 1 t) (c .element))) in
         and-both
-        (and-both (lt-ltb (x .root) i (omega (arith, b .0, a .root))) (lt-ltb i (pastOf (depthsIn x) (x .root)) (omega (arith, b .1, past-same))))
+        (and-both (lt-ltb (x .root) i (omega (arith, b .0, a .root)))
+        (lt-ltb i (pastOf (depthsIn x) (x .root)) (omega (arith, b .1, past-same))))
         (and-both (eq-eqb (r .kind) 1 kind) (ap (λ (n : Bytes). oneOf n (skipNames o noscript)) (sym name-same) ∙ c .name)),
   )
 
@@ -194,8 +210,17 @@ sheet-marked s l o noscript e =
       rows = λ i h. row-chosen o noscript a i h;
       accepted = accepted;
       size = ap length after ∙ b .lined .size ∙ sym (a .lined .size);
-      bytes = λ k out. ap (λ (x : Bytes). getD x k 0) (after ∙ ap (encode w) (sym (whole o noscript s l a))) ∙ bytes-to o noscript s l a (l .nodes) k (omega arith) out;
+      bytes = λ k out.
+          ap (λ (x : Bytes). getD x k 0) (after ∙ ap (encode w) (sym (whole o noscript s l a)))
+          ∙ bytes-to o noscript s l a (l .nodes) k (omega arith) out;
       marks = λ i h. ap (λ (x : Bytes). pageOf x l .marked i) after ∙ mark-is o noscript s l a i h;
-      none-again = answer-is (sheetAfter s o noscript) o noscript accepted ∙ ap (λ (x : Decoded). Marks (marks o noscript x)) decoded ∙ ap Marks (marks-again o noscript s l a);
-      same-again = after-is (sheetAfter s o noscript) o noscript accepted ∙ ap (λ (x : Decoded). encode w (marked o noscript x)) decoded ∙ ap (encode w) (same-again o noscript s l a) ∙ sym after;
+      none-again =
+          answer-is (sheetAfter s o noscript) o noscript accepted
+          ∙ ap (λ (x : Decoded). Marks (marks o noscript x)) decoded
+          ∙ ap Marks (marks-again o noscript s l a);
+      same-again =
+          after-is (sheetAfter s o noscript) o noscript accepted
+          ∙ ap (λ (x : Decoded). encode w (marked o noscript x)) decoded
+          ∙ ap (encode w) (same-again o noscript s l a)
+          ∙ sym after;
     }

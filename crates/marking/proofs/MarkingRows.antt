@@ -42,12 +42,14 @@ module _ (o : ExtractOptions) (noscript : Bool) (s : Bytes) (l : Layout) (i : �
   new-marked e m = rw (ne-eqb (r .skip) 0 (λ x. m (e ∙ x))) (sym (and-false (isListed o noscript (decode l s) r)))
 
   pub new-named : {x : Bool} {name : Bytes} {kind skip at len : ℕ} → kind ≡ r .kind → kind ≡ 1 → skip ≡ r .skip → skip ≡ 0
-      → at ≡ r .«name_at» → len ≡ r .«name_len» → name ≡ range s l at len → x ≡ oneOf name (skipNames o noscript) → x ≡ isNewRow o noscript (decode l s) r
+      → at ≡ r .«name_at» → len ≡ r .«name_len» → name ≡ range s l at len → x ≡ oneOf name (skipNames o noscript)
+      → x ≡ isNewRow o noscript (decode l s) r
   unfolding isNewRow isListed decode
   new-named k is-1 m is-0 at len p q =
       q
       ∙ ap (λ (t : Bytes). oneOf t (skipNames o noscript)) (p ∙ ap₂ (range s l) at len ∙ range-in-pool s l (r .«name_at») (r .«name_len»))
-      ∙ rw (eq-eqb (r .kind) 1 (sym k ∙ is-1), eq-eqb (r .skip) 0 (sym m ∙ is-0)) (sym (and-true (oneOf (partOf (poolOf s l) (r .«name_at») (r .«name_len»)) (skipNames o noscript))))
+      ∙ rw (eq-eqb (r .kind) 1 (sym k ∙ is-1), eq-eqb (r .skip) 0 (sym m ∙ is-0))
+      (sym (and-true (oneOf (partOf (poolOf s l) (r .«name_at») (r .«name_len»)) (skipNames o noscript))))
 
 -- ---- what is below the root
 
@@ -123,14 +125,18 @@ module _ (o : ExtractOptions) (noscript : Bool) (s : Bytes) (l : Layout) where
       done : pastOf (depthsIn d) (d .root) ≡ i → (n ≡ marks o noscript d) × (t ≡ encode w (marked o noscript d))
       done p =
           let none = past-last o noscript d i p in
-          (m .count ∙ marks-all o noscript d i (omega (arith, m .inside, a .size)) none, m .sheet ∙ ap (encode w) (to-all o noscript d i none))
+          let count = m .count ∙ marks-all o noscript d i (omega (arith, m .inside, a .size)) none in
+          (count, m .sheet ∙ ap (encode w) (to-all o noscript d i none))
 
       pub marking-end : l .nodes ≤ i → (n ≡ marks o noscript d) × (t ≡ encode w (marked o noscript d))
       marking-end h = done (sym (m .left) ∙ past-done (depthsIn d) _ i (omega (arith, a .depths-size)))
 
       module _ (h : i < l .nodes) where
         row-read : rowAt t l i ≡ rowIn d i
-        row-read = ap (λ (y : Bytes). rowAt y l i) (m .sheet) ∙ sym (to-decodes i .row i h) ∙ row-ahead o noscript d i i (omega arith) (omega (arith, a .size))
+        row-read =
+            ap (λ (y : Bytes). rowAt y l i) (m .sheet)
+            ∙ sym (to-decodes i .row i h)
+            ∙ row-ahead o noscript d i i (omega arith) (omega (arith, a .size))
 
         pub marking-name : NameInside t l i
         marking-name =
@@ -139,13 +145,18 @@ module _ (o : ExtractOptions) (noscript : Bool) (s : Bytes) (l : Layout) where
 
         module _ {x y : ℕ} (root-depth : x ≡ rowAt s l (l .root) .depth) (row-depth : y ≡ rowAt t l i .depth) where
           root-is : getD (depthsIn d) (d .root) 0 ≡ x
-          root-is = a .depth (d .root) ∙ ap (λ (j : ℕ). rowIn d j .depth) (a .root) ∙ ap (λ (y : Row). y .depth) (a .row (l .root) (a .root-there)) ∙ sym root-depth
+          root-is =
+              a .depth (d .root)
+              ∙ ap (λ (j : ℕ). rowIn d j .depth) (a .root)
+              ∙ ap (λ (y : Row). y .depth) (a .row (l .root) (a .root-there))
+              ∙ sym root-depth
 
           depth-is : y ≡ getD (depthsIn d) i 0
           depth-is = row-depth ∙ ap (λ (z : Row). z .depth) row-read ∙ sym (a .depth i)
 
           pub marking-stop : y ≤ x → (n ≡ marks o noscript d) × (t ≡ encode w (marked o noscript d))
-          marking-stop k = done (sym (m .left) ∙ past-stop (depthsIn d) _ i y (omega (arith, a .depths-size)) depth-is (omega (arith, root-is)))
+          marking-stop k =
+              done (sym (m .left) ∙ past-stop (depthsIn d) _ i y (omega (arith, a .depths-size)) depth-is (omega (arith, root-is)))
 
           module _ (deeper : x < y) where
             left-next : pastFrom (getD (depthsIn d) (d .root) 0) (i + 1) (drop (i + 1) (depthsIn d)) ≡ pastOf (depthsIn d) (d .root)
@@ -160,7 +171,9 @@ module _ (o : ExtractOptions) (noscript : Bool) (s : Bytes) (l : Layout) where
             -- the test in the loop is that of the whole
             test-is : isNewAt o noscript t l i ≡ isNew o noscript d i
             test-is =
-                ap₂ (isNewRow o noscript) decoded row-read ∙ same-test o noscript d i (rowIn d i) ∙ sym (new-below o noscript d i (m .start) before-past)
+                ap₂ (isNewRow o noscript) decoded row-read
+                ∙ same-test o noscript d i (rowIn d i)
+                ∙ sym (new-below o noscript d i (m .start) before-past)
 
             pub marking-more : {k : ℕ} {u : Bytes} → k ≡ cond (isNewAt o noscript t l i) 1 0
                 → u ≡ markedAt o noscript t l i → Marking (i + 1) u (n + k)
@@ -171,7 +184,9 @@ module _ (o : ExtractOptions) (noscript : Bool) (s : Bytes) (l : Layout) where
                   left = left-next;
                   sheet =
                       q ∙ by-test (isNew o noscript d i)
-                      (λ f. rw (test-is, f) (ap (λ (y : Decoded). encode w (setSkip i 1 y)) decoded ∙ ap (encode w) (to-new o noscript d (a .right) i (omega (arith, a .size)) f)))
+                      (λ f.
+                      let next = to-new o noscript d (a .right) i (omega (arith, a .size)) f in
+                      rw (test-is, f) (ap (λ (y : Decoded). encode w (setSkip i 1 y)) decoded ∙ ap (encode w) next))
                       (λ f. rw (test-is, f) (m .sheet ∙ ap (encode w) (to-old o noscript d (a .right) i (omega (arith, a .size)) f)));
                   count = ap₂ (λ (a b : ℕ). a + b) (m .count) (p ∙ ap (λ (b : Bool). cond b 1 0) test-is) ∙ sym (marks-next o noscript d i);
                 }

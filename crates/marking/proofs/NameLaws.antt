@@ -31,7 +31,8 @@ unlisted : (name : Bytes) → oneOf name known ≡ false → listOf name ≡ Unl
 unfolding listOf words firstWord otherWords codes oneOf same
 unlisted name h = simp (not-in always refl name h, not-in media refl name h, not-in scriptless refl name h, not-in fields refl name h)
 
-pub short-list : (name : Bytes) → AllBytes name → length name ≤ 7 → {v : ℕ} {l : SkipList} → l ≡ packed listOf Unlisted shortNames v → v ≡ packOf name → l ≡ listOf name
+pub short-list : (name : Bytes) → AllBytes name → length name ≤ 7 → {v : ℕ} {l : SkipList} → l ≡ packed listOf Unlisted shortNames v
+    → v ≡ packOf name → l ≡ listOf name
 unfolding words firstWord otherWords codes oneOf same
 short-list name b h = packed-name listOf Unlisted known unlisted (λ n. leb n 7) shortNames refl name b (le-leb _ _ h)
 
@@ -47,7 +48,8 @@ pub list-at : (name w : Bytes) {l : SkipList} → same name w ≡ true → l ≡
 list-at name w e p = p ∙ ap listOf (sym (same-true name w e))
 
 pub long-none : (name : Bytes) → 8 ≤ length name
-    → is name "template" ≡ false → is name "noscript" ≡ false → is name "textarea" ≡ false → is name "figcaption" ≡ false → Unlisted ≡ listOf name
+    → is name "template" ≡ false → is name "noscript" ≡ false → is name "textarea" ≡ false → is name "figcaption" ≡ false
+    → Unlisted ≡ listOf name
 long-none name h a b c d =
     sym (no-other listOf Unlisted known unlisted (leb 8) longNames all-long name (le-leb 8 (length name) h)
     (none-of name _ _ a (none-of name _ _ b (none-of name _ _ c (none-of name _ _ d (none-of-none name))))))
@@ -81,7 +83,8 @@ all-agree false false true = refl
 all-agree false false false = refl
 
 module _ (name : Bytes) (o : ExtractOptions) (noscript : Bool) where
-  pub left-by-list : {l k : SkipList} → l ≡ listOf name → l ≡ k → isLeft (o .«alt_texts») noscript (o .«form_fields») k ≡ oneOf name (skipNames o noscript)
+  pub left-by-list : {l k : SkipList} → l ≡ listOf name → l ≡ k
+      → isLeft (o .«alt_texts») noscript (o .«form_fields») k ≡ oneOf name (skipNames o noscript)
   left-by-list e t =
       let left = isLeft (o .«alt_texts») noscript (o .«form_fields») in
       let p = and-parts _ _ (all-agree (o .«alt_texts») noscript (o .«form_fields»)) in

@@ -26,8 +26,8 @@ use Rattle.sheet_form.proofs.Rightness.{encode-accepted, of-accepted}
 use Rattle.sheet_form.proofs.Widths.{right-fits}
 
 layout-same : (w : ℕ) (d x : Decoded)
-    → length (x .rows) ≡ length (d .rows) → length (x .attributes) ≡ length (d .attributes) → length (x .pool) ≡ length (d .pool) → x .root ≡ d .root
-    → layoutFor w x ≡ layoutFor w d
+    → length (x .rows) ≡ length (d .rows) → length (x .attributes) ≡ length (d .attributes) → length (x .pool) ≡ length (d .pool)
+    → x .root ≡ d .root → layoutFor w x ≡ layoutFor w d
 layout-same w d x p q r t i = record { width = w; nodes = p i; attributes = q i; pool = r i; root = t i }
 
 -- d is what is decoded of the accepted sheet s
@@ -78,7 +78,8 @@ decodes {s} {l} e =
 
 -- ---- another sheet with the same pool and the same layout
 
-module _ {s : Bytes} {l : Layout} {d x : Decoded} (a : Decodes s l d) (r : Right x) (same : layoutFor (l .width) x ≡ layoutFor (l .width) d) where
+module _ {s : Bytes} {l : Layout} {d x : Decoded} (a : Decodes s l d) (r : Right x)
+    (same : layoutFor (l .width) x ≡ layoutFor (l .width) d) where
   abbrev w : ℕ
   w = l .width
 
@@ -117,4 +118,5 @@ module _ {s : Bytes} {l : Layout} {d x : Decoded} (a : Decodes s l d) (r : Right
 -- other marks
 pub remarked : {s : Bytes} {l : Layout} {d x : Decoded} → Decodes s l d → ButMarks d x → Decodes (encode (l .width) x) l x
 remarked {s} {l} {d} {x} a m =
-    encode-decodes a (marks-right m (a .right)) (layout-same (l .width) d x (m .length-rows) (ap length (m .attributes)) (ap length (m .pool)) (m .root))
+    encode-decodes a (marks-right m (a .right))
+    (layout-same (l .width) d x (m .length-rows) (ap length (m .attributes)) (ap length (m .pool)) (m .root))

@@ -123,7 +123,11 @@ number-set {s} {l} lined i k n h small =
 numbers-at : (w : ℕ) (s : Bytes) (at n k : ℕ) → k < n → getD (numbersAt w s at n) k 0 ≡ numberAt w s (at + k * w)
 numbers-at w s at zero k h = absurd (omega arith)
 numbers-at w s at (suc n) zero h = let z : at ≡ at + 0 * w = omega arith in ap (numberAt w s) z
-numbers-at w s at (suc n) (suc k) h = let z : at + w + k * w ≡ at + suc k * w = omega (arith, suc-mul k w) in numbers-at w s (at + w) n k (omega arith) ∙ ap (numberAt w s) z
+numbers-at w s at (suc n) (suc k) h =
+    let z : at + w + k * w ≡ at + suc k * w = omega (arith, suc-mul k w) in
+    numbers-at w s (at + w) n k (omega arith) ∙ ap (numberAt w s) z
 
-pub number-read : (s : Bytes) (l : Layout) (i k : ℕ) → i < l .nodes → k < 8 → getD (rowNumbers (rowAt s l i)) k 0 ≡ numberAt (l .width) s (nodeStart l i + k * l .width)
-number-read s l i k h small = ap (λ (r : Row). getD (rowNumbers r) k 0) (row-there s l i h) ∙ numbers-at (l .width) s (nodeStart l i) 8 k small
+pub number-read : (s : Bytes) (l : Layout) (i k : ℕ) → i < l .nodes → k < 8
+    → getD (rowNumbers (rowAt s l i)) k 0 ≡ numberAt (l .width) s (nodeStart l i + k * l .width)
+number-read s l i k h small =
+    ap (λ (r : Row). getD (rowNumbers r) k 0) (row-there s l i h) ∙ numbers-at (l .width) s (nodeStart l i) 8 k small

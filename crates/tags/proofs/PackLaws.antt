@@ -91,7 +91,8 @@ abbrev pub listed : List Bytes → (ℕ → Bool) → List Bytes → Bool
 listed names range ws = each areBytes ws && each (λ w. not (range (length w)) || oneOf w ws) names
 
 module _ {A : Type 0} (f : Bytes → A) (other : A) where
-  packed-is : (s : Bytes) → AllBytes s → (ws : List Bytes) → each areBytes ws ≡ true → packed f other ws (packOf s) ≡ cond (oneOf s ws) (f s) other
+  packed-is : (s : Bytes) → AllBytes s → (ws : List Bytes) → each areBytes ws ≡ true
+      → packed f other ws (packOf s) ≡ cond (oneOf s ws) (f s) other
   unfolding packed oneOf
   packed-is s b [] t = refl
   packed-is s b (w ∷ ws) t =
@@ -102,7 +103,8 @@ module _ {A : Type 0} (f : Bytes → A) (other : A) where
       (λ e. rw (q, e, oneOf) (packed-is s b ws (p .1)))
 
   -- of all names but the known ones f says the same
-  module _ (names : List Bytes) (unlisted : (s : Bytes) → oneOf s names ≡ false → f s ≡ other) (range : ℕ → Bool) (ws : List Bytes) (t : listed names range ws ≡ true) where
+  module _ (names : List Bytes) (unlisted : (s : Bytes) → oneOf s names ≡ false → f s ≡ other)
+      (range : ℕ → Bool) (ws : List Bytes) (t : listed names range ws ≡ true) where
     pub no-other : (s : Bytes) → range (length s) ≡ true → oneOf s ws ≡ false → f s ≡ other
     no-other s r e =
         let q = and-parts (each areBytes ws) (each (λ w. not (range (length w)) || oneOf w ws) names) t in
@@ -115,7 +117,8 @@ module _ {A : Type 0} (f : Bytes → A) (other : A) where
         let q = and-parts (each areBytes ws) (each (λ w. not (range (length w)) || oneOf w ws) names) t in
         e ∙ ap (packed f other ws) p ∙ packed-is s b ws (q .0) ∙ by-test (oneOf s ws) (λ k. rw k) (λ k. rw k (sym (no-other s r k)))
 
-pub packed-tag : (range : ℕ → Bool) (ws : List Bytes) → listed known range ws ≡ true → (s : Bytes) → AllBytes s → range (length s) ≡ true → {v tag : ℕ} → tag ≡ tagPacked ws v → v ≡ packOf s → tag ≡ tagOf s
+pub packed-tag : (range : ℕ → Bool) (ws : List Bytes) → listed known range ws ≡ true
+    → (s : Bytes) → AllBytes s → range (length s) ≡ true → {v tag : ℕ} → tag ≡ tagPacked ws v → v ≡ packOf s → tag ≡ tagOf s
 packed-tag = packed-name tagOf 0 known unknown
 
 -- ---- a match that has tried the number of each word, and what its last arm knows
@@ -127,7 +130,8 @@ ruled-before : (v : ℕ) (ws : List Bytes) (T : Type 0) → ruledOut v ws T → 
 ruled-before v [] T h = h
 ruled-before v (w ∷ ws) T h = ruled-before v ws (T × (v ≡ packOf w → ⊥)) h .0
 
-pub packed-none : {A : Type 0} (f : Bytes → A) (other : A) (v : ℕ) (ws : List Bytes) (T : Type 0) → ruledOut v ws T → other ≡ packed f other ws v
+pub packed-none : {A : Type 0} (f : Bytes → A) (other : A) (v : ℕ) (ws : List Bytes) (T : Type 0) → ruledOut v ws T
+    → other ≡ packed f other ws v
 unfolding packed
 packed-none f other v [] T h = refl
 packed-none f other v (w ∷ ws) T h =

@@ -16,11 +16,14 @@ levzhada-mark-spec =
     (λ c κs. search needs)
     (λ c.
     let line = c .before .before .before in
-    unmarked-line (now (line .before .before .before .args .sheet)) _ (line .before .before .before .args .noscript) (sym (c .before .enum-told .given .1) ∙ line .read-line .ensures) (c .wrong-options .ensures))
+    unmarked-line (now (line .before .before .before .args .sheet)) _ (line .before .before .before .args .noscript)
+    (sym (c .before .enum-told .given .1) ∙ line .read-line .ensures) (c .wrong-options .ensures))
     (λ c κs. search needs)
     (λ c κs. search needs)
     (λ c. search needs)
     (λ c.
     let line = c .before .before .before .before .before .before .before .before in
     let x = c .before .before .before .mark .ensures in
-    marked-by-line (now (line .before .before .before .args .sheet)) _ (line .before .before .before .args .noscript) (sym (c .before .before .before .before .before .before .o .given .1) ∙ line .read-line .ensures) (c .of-marked .ensures) (x .0, x .1 .0)))
+    marked-by-line (now (line .before .before .before .args .sheet)) _ (line .before .before .before .args .noscript)
+    (sym (c .before .before .before .before .before .before .o .given .1) ∙ line .read-line .ensures) (c .of-marked .ensures)
+    (x .0, x .1 .0)))

@@ -16,6 +16,7 @@ mark-spec =
     (λ c κs. sym (c .before .before .before .before .check .ensures .0) ∙ c .before .before .v .given .1)
     (λ c. search needs)
     (λ c.
-    let e = sym (c .before .before .before .before .before .before .before .check .ensures .0) ∙ c .before .before .before .before .before .v .given .1 in
+    let told = c .before .before .before .before .before in
+    let e = sym (told .before .before .check .ensures .0) ∙ told .v .given .1 in
     let q = marked-sheet _ _ _ e (c .before .before .mark-rows .ensures) in
     (q .0, (q .1, q .2))))

@@ -21,12 +21,19 @@ mark-rows-spec =
     (λ c κs. let a = decodes (c .before .before .pre) in (a .lined, a .root-there))
     (λ c. omega (arith, decodes (c .before .before .before .before .pre) .root-there))
     (λ c. marking-start _ _ _ _ (decodes (c .before .before .before .before .pre)))
-    (λ c κs. (marking-lined _ _ _ _ (decodes (c .before .before .before .before .before .before .before .pre)) (c .before .before .loop .inv), c .before .loop-test .taken))
-    (λ c. marking-length _ _ _ _ (decodes (c .before .before .before .before .before .before .before .before .before .pre)) (c .before .before .before .before .loop .inv))
+    (λ c κs.
+    let test = c .before in
+    let a = decodes (test .before .before .before .before .before .before .pre) in
+    (marking-lined _ _ _ _ a (test .before .loop .inv), test .loop-test .taken))
+    (λ c.
+    let loop = c .before .before .before .before in
+    marking-length _ _ _ _ (decodes (loop .before .before .before .before .before .pre)) (loop .loop .inv))
     (λ c.
     let test = c .before .before .before in
     let start = test .before .before .before .before .before .before in
-    marking-stop _ _ _ _ (decodes (start .pre)) (test .before .loop .inv) (test .loop-test .taken) (test .before .before .before .depth-at .ensures) (c .before .depth-at2 .ensures) (c .if1 .taken))
+    let root-depth = test .before .before .before .depth-at .ensures in
+    let row-depth = c .before .depth-at2 .ensures in
+    marking-stop _ _ _ _ (decodes (start .pre)) (test .before .loop .inv) (test .loop-test .taken) root-depth row-depth (c .if1 .taken))
     (λ c κs.
     let a = decodes (c .before .before .before .before .before .before .before .before .before .before .pre) in
     let m = c .before .before .before .before .before .loop .inv in
@@ -36,7 +43,10 @@ mark-rows-spec =
     let choice = c .before .before .before .before in
     let test = choice .before .before .before in
     let a = decodes (test .before .before .before .before .before .before .pre) in
-    omega (arith, marking-room _ _ _ _ a (test .before .loop .inv) (test .loop-test .taken) (test .before .before .before .depth-at .ensures) (choice .before .depth-at2 .ensures) (choice .if1 .left) (c .before .before .mark-row .ensures .0)))
+    let root-depth = test .before .before .before .depth-at .ensures in
+    let row-depth = choice .before .depth-at2 .ensures in
+    let count = c .before .before .mark-row .ensures .0 in
+    omega (arith, marking-room _ _ _ _ a (test .before .loop .inv) (test .loop-test .taken) root-depth row-depth (choice .if1 .left) count))
     (λ c. omega arith)
     (λ c. omega arith)
     (λ c.
@@ -44,6 +54,10 @@ mark-rows-spec =
     let test = choice .before .before .before in
     let a = decodes (test .before .before .before .before .before .before .pre) in
     let x = c .before .before .mark-row .ensures in
-    marking-more _ _ _ _ a (test .before .loop .inv) (test .loop-test .taken) (test .before .before .before .depth-at .ensures) (choice .before .depth-at2 .ensures) (choice .if1 .left) (x .0) (x .1))
+    let root-depth = test .before .before .before .depth-at .ensures in
+    let row-depth = choice .before .depth-at2 .ensures in
+    marking-more _ _ _ _ a (test .before .loop .inv) (test .loop-test .taken) root-depth row-depth (choice .if1 .left) (x .0) (x .1))
     (λ c. marking-length _ _ _ _ (decodes (c .before .before .before .before .before .before .pre)) (c .before .loop .inv))
-    (λ c. marking-end _ _ _ _ (decodes (c .before .before .before .before .before .before .pre)) (c .before .loop .inv) (c .loop-test .left)))
+    (λ c.
+    let a = decodes (c .before .before .before .before .before .before .pre) in
+    marking-end _ _ _ _ a (c .before .loop .inv) (c .loop-test .left)))

@@ -13,7 +13,8 @@ list-of-spec =
     (λ c κs. search needs)
     (λ c κs. search needs)
     (λ c.
-    short-list (now (c .before .before .before .before .args .name)) (λ i. omega (arith, c .before .before .before .shared-slice-known .given i))
+    short-list (now (c .before .before .before .before .args .name))
+    (λ i. omega (arith, c .before .before .before .shared-slice-known .given i))
     (c .before .before .if1 .taken) (c .list-of-seven .ensures) (c .before .pack .ensures))
     (λ c κs. search needs)
     (λ c. search needs))

@@ -16,22 +16,31 @@ list-of-long-spec =
     (tie.spec
     (λ c. search needs)
     (λ c κs. search needs)
-    (λ c. list-at (now (c .before .before .before .before .args .name)) (codes "template") (sym (c .before .same .ensures) ∙ c .if1 .taken) refl)
-    (λ c. search needs)
-    (λ c κs. search needs)
-    (λ c. list-at (now (c .before .before .before .before .before .before .before .args .name)) (codes "noscript") (sym (c .before .same2 .ensures) ∙ c .if2 .taken) refl)
-    (λ c. search needs)
-    (λ c κs. search needs)
-    (λ c. list-at (now (c .before .before .before .before .before .before .before .before .before .before .args .name)) (codes "textarea") (sym (c .before .same3 .ensures) ∙ c .if3 .taken) refl)
+    (λ c.
+    list-at (now (c .before .before .before .before .args .name)) (codes "template")
+    (sym (c .before .same .ensures) ∙ c .if1 .taken) refl)
     (λ c. search needs)
     (λ c κs. search needs)
     (λ c.
-    list-at (now (c .before .before .before .before .before .before .before .before .before .before .before .before .before .args .name)) (codes "figcaption")
-    (sym (c .before .same4 .ensures) ∙ c .if4 .taken) refl)
+    list-at (now (c .before .before .before .before .before .before .before .args .name)) (codes "noscript")
+    (sym (c .before .same2 .ensures) ∙ c .if2 .taken) refl)
+    (λ c. search needs)
+    (λ c κs. search needs)
+    (λ c.
+    list-at (now (c .before .before .before .before .before .before .before .before .before .before .args .name)) (codes "textarea")
+    (sym (c .before .same3 .ensures) ∙ c .if3 .taken) refl)
+    (λ c. search needs)
+    (λ c κs. search needs)
     (λ c.
     let start = c .before .before .before .before .before .before .before .before .before .before .before .before .before in
+    list-at (now (start .args .name)) (codes "figcaption") (sym (c .before .same4 .ensures) ∙ c .if4 .taken) refl)
+    (λ c.
+    let third = c .before .before .before in
+    let second = third .before .before .before in
+    let first = second .before .before .before in
+    let start = first .before .before .before .before in
     long-none (now (start .args .name)) (start .pre)
-    (sym (c .before .before .before .before .before .before .before .before .before .before .same .ensures) ∙ c .before .before .before .before .before .before .before .before .before .if1 .left)
-    (sym (c .before .before .before .before .before .before .before .same2 .ensures) ∙ c .before .before .before .before .before .before .if2 .left)
-    (sym (c .before .before .before .before .same3 .ensures) ∙ c .before .before .before .if3 .left)
+    (sym (first .before .same .ensures) ∙ first .if1 .left)
+    (sym (second .before .same2 .ensures) ∙ second .if2 .left)
+    (sym (third .before .same3 .ensures) ∙ third .if3 .left)
     (sym (c .before .same4 .ensures) ∙ c .if4 .left)))
