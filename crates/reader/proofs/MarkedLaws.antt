@@ -29,9 +29,9 @@ module _ (s : Bytes) (l : Layout) (by : ExtractOptions) (noscript : Bool) (e : v
         same = λ k out. m .bytes k (λ i h new x. out (record { row = i; there = h; from = x .from; to = x .to }));
         kept = λ i h old. m .marks i h ∙ or-right (chosen s l by noscript i) _ old;
         below = λ i h old new.
-            let now = sym (m .marks i h) ∙ new in
-            let chosen = or-cases (chosen s l by noscript i) (pageOf s l .marked i) (λ x. x) (λ x. absurd-test x old) now in
-            inr (m .rows i h .0 chosen .below);
+            let either = sym (m .marks i h) ∙ new in
+            let further = or-cases (chosen s l by noscript i) (pageOf s l .marked i) (λ x. x) (λ x. absurd-test x old) either in
+            inr (m .rows i h .0 further .below);
       }
 
 pub marked-texts : MarkedTexts
