@@ -24,19 +24,19 @@ record Decoded (s : Bytes) : Type 0 where
 -- ---- the four forms
 
 module _ (c : ℕ) where
-  encode-1 : c ≤ 0x7F → encode c ≡ c ∷ []
+  pub encode-1 : c ≤ 0x7F → encode c ≡ c ∷ []
   unfolding encode
   encode-1 h = rw (le-leb c 0x7F h)
 
-  encode-2 : 0x7F < c → c ≤ 0x7FF → encode c ≡ (0xC0 + c / 64) ∷ tail c 1 ∷ []
+  pub encode-2 : 0x7F < c → c ≤ 0x7FF → encode c ≡ (0xC0 + c / 64) ∷ tail c 1 ∷ []
   unfolding encode
   encode-2 h k = rw (lt-leb c 0x7F h, le-leb c 0x7FF k)
 
-  encode-3 : 0x7FF < c → c ≤ 0xFFFF → encode c ≡ (0xE0 + c / 4096) ∷ tail c 64 ∷ tail c 1 ∷ []
+  pub encode-3 : 0x7FF < c → c ≤ 0xFFFF → encode c ≡ (0xE0 + c / 4096) ∷ tail c 64 ∷ tail c 1 ∷ []
   unfolding encode
   encode-3 h k = rw (lt-leb c 0x7F (omega arith), lt-leb c 0x7FF h, le-leb c 0xFFFF k)
 
-  encode-4 : 0xFFFF < c → encode c ≡ (0xF0 + c / 262144) ∷ tail c 4096 ∷ tail c 64 ∷ tail c 1 ∷ []
+  pub encode-4 : 0xFFFF < c → encode c ≡ (0xF0 + c / 262144) ∷ tail c 4096 ∷ tail c 64 ∷ tail c 1 ∷ []
   unfolding encode
   encode-4 h = rw (lt-leb c 0x7F (omega arith), lt-leb c 0x7FF (omega arith), lt-leb c 0xFFFF h)
 

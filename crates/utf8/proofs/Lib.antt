@@ -1,3 +1,4 @@
+pub mod CharacterLaws
 pub mod Encodings
 pub mod Following
 pub mod Grammar

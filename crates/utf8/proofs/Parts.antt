@@ -17,7 +17,7 @@ use Rattle.utf8.proofs.Following.{follows}
 
 -- ---- behind a first octet come tails
 
-within-bounds : (r : Range) (x : ℕ) → within r x ≡ true → (r .low ≤ x) × (x ≤ r .high)
+pub within-bounds : (r : Range) (x : ℕ) → within r x ≡ true → (r .low ≤ x) × (x ≤ r .high)
 within-bounds r x w = let p = and-parts (leb (r .low) x) (leb x (r .high)) w in (leb-true (r .low) x (p .0), leb-true x (r .high) (p .1))
 
 -- no octets but tails are of these ranges

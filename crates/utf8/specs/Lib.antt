@@ -1,4 +1,5 @@
 pub mod Abnf
+pub mod Character
 pub mod Encoding
 pub mod State
 pub mod Valid

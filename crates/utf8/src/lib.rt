@@ -1,4 +1,5 @@
 // Whether bytes are UTF-8 (RFC 3629).
+pub mod character;
 pub mod theorems;
 
 ghost use mathlib.Core.Bool.{true};
@@ -104,7 +105,7 @@ fn first_of_four(b: u8) -> Expected
     }
 }
 
-fn is_tail(b: u8) -> bool
+pub fn is_tail(b: u8) -> bool
     ensures { λ r. ⌜ r ≡ within UTF8-tail b ⌝ }
 {
     if b < 0x80 {
