@@ -1,6 +1,6 @@
 -- Worked examples: texts that are icons, and the rows of small pages that are filtered out.
 use mathlib.Core.Bool.{Bool, true, false, _&&_, not}
-use mathlib.Core.List.{List, [], _∷_, map}
+use mathlib.Core.List.{List, [], _∷_, _++_, map}
 use Prim.Native.Nat.{ℕ, zero, suc}
 use Prim.Native.String.{String}
 use lib.Dec.{T}
@@ -8,7 +8,7 @@ use lib.ListN.{getD, length}
 use Rattle.common.specs.Bytes.{Bytes, codes, same}
 use Rattle.options.specs.Options.{standing, withMainContent, withComments, withPostMeta, withHiddenElements, withIcons}
 use Rattle.options.specs.declared.ExtractOptions.{ExtractOptions}
-use Rattle.tree.specs.Node.{Kind, element, text, comment, Attribute, Node}
+use Rattle.tree.specs.Node.{element, text, comment, Attribute, Node}
 use Rattle.tree.specs.Page.{Page}
 use Rattle.filters.specs.Filters.{filtered}
 use Rattle.filters.specs.Icon.{isIcon}
@@ -28,8 +28,11 @@ tagged name attributes = record { kind = element; name = codes name; value = [];
 abbrev pub plain : String → Node
 plain name = tagged name []
 
+abbrev pub bytes : Bytes → Node
+bytes value = record { kind = text; name = []; value = value; attributes = [] }
+
 abbrev pub words : String → Node
-words value = record { kind = text; name = []; value = codes value; attributes = [] }
+words value = bytes (codes value)
 
 abbrev pub remark : Node
 remark = record { kind = comment; name = []; value = []; attributes = [] }
@@ -71,10 +74,35 @@ icons =
     -- document 01: "Three bytes, icons 0: dropped EE 80 80, EF A3 BF, E2 88 92, EF BF BD; kept E2 80 80, EF A4 BF, "abc""
     dropped false (0xee ∷ 0x80 ∷ 0x80 ∷ []) ∷ dropped false (0xef ∷ 0xa3 ∷ 0xbf ∷ []) ∷ dropped false (0xe2 ∷ 0x88 ∷ 0x92 ∷ []) ∷ dropped false (0xef ∷ 0xbf ∷ 0xbd ∷ [])
     ∷ kept false (0xe2 ∷ 0x80 ∷ 0x80 ∷ []) ∷ kept false (0xef ∷ 0xa4 ∷ 0xbf ∷ []) ∷ kept false (codes "abc")
-    -- icons 1: the private use area and no other three bytes
-    ∷ dropped true (0xee ∷ 0x80 ∷ 0x80 ∷ []) ∷ dropped true (0xef ∷ 0xa3 ∷ 0xbf ∷ []) ∷ kept true (0xe2 ∷ 0x88 ∷ 0x92 ∷ []) ∷ kept true (0xef ∷ 0xbf ∷ 0xbd ∷ []) ∷ kept true (0xef ∷ 0xa4 ∷ 0x80 ∷ []) ∷ kept true (0xed ∷ 0x9f ∷ 0xbf ∷ [])
-    -- the pilcrow in both
-    ∷ dropped false (0xc2 ∷ 0xb6 ∷ []) ∷ dropped true (0xc2 ∷ 0xb6 ∷ [])
+    -- icons 1, the ends of the three ranges and "¶"
+    ∷ dropped true (0xee ∷ 0x80 ∷ 0x80 ∷ []) ∷ dropped true (0xef ∷ 0xa3 ∷ 0xbf ∷ [])
+    ∷ dropped true (0xf3 ∷ 0xb0 ∷ 0x80 ∷ 0x80 ∷ []) ∷ dropped true (0xf3 ∷ 0xbf ∷ 0xbf ∷ 0xbd ∷ [])
+    ∷ dropped true (0xf4 ∷ 0x80 ∷ 0x80 ∷ 0x80 ∷ []) ∷ dropped true (0xf4 ∷ 0x8f ∷ 0xbf ∷ 0xbd ∷ [])
+    ∷ dropped true (0xc2 ∷ 0xb6 ∷ [])
+    -- what stands beside them
+    ∷ kept true (0xed ∷ 0x9f ∷ 0xbf ∷ []) ∷ kept true (0xef ∷ 0xa4 ∷ 0x80 ∷ [])
+    ∷ kept true (0xf3 ∷ 0xaf ∷ 0xbf ∷ 0xbf ∷ []) ∷ kept true (0xf3 ∷ 0xbf ∷ 0xbf ∷ 0xbe ∷ []) ∷ kept true (0xf3 ∷ 0xbf ∷ 0xbf ∷ 0xbf ∷ [])
+    ∷ kept true (0xf4 ∷ 0x8f ∷ 0xbf ∷ 0xbe ∷ []) ∷ kept true (0xf4 ∷ 0x8f ∷ 0xbf ∷ 0xbf ∷ [])
+    -- "−", U+FFFD, two icons together, U+00A0 and an icon, no text
+    ∷ kept true (0xe2 ∷ 0x88 ∷ 0x92 ∷ []) ∷ kept true (0xef ∷ 0xbf ∷ 0xbd ∷ [])
+    ∷ kept true (0xee ∷ 0x80 ∷ 0x80 ∷ 0xee ∷ 0x80 ∷ 0x80 ∷ []) ∷ kept true (0xc2 ∷ 0xa0 ∷ 0xee ∷ 0x80 ∷ 0x80 ∷ []) ∷ kept true []
+    -- octets that would give such a number and are no encoding of it
+    ∷ kept true (0xf0 ∷ 0x8e ∷ 0x80 ∷ 0x80 ∷ []) ∷ kept true (0xed ∷ 0xc0 ∷ 0x80 ∷ []) ∷ kept true (0xc2 ∷ 0xf6 ∷ [])
+    -- icons 0: the pilcrow, and no four bytes
+    ∷ dropped false (0xc2 ∷ 0xb6 ∷ []) ∷ kept false (0xf3 ∷ 0xb0 ∷ 0x80 ∷ 0x80 ∷ [])
+    ∷ []
+
+-- U+F0000
+abbrev pub anIcon : Bytes
+anIcon = 0xf3 ∷ 0xb0 ∷ 0x80 ∷ 0x80 ∷ []
+
+abbrev pub someIcons : Rows
+someIcons =
+    (0, plain "body")
+    ∷ (1, bytes (0x20 ∷ 0x0b ∷ anIcon ++ 0x0d ∷ 0x0a ∷ []))
+    ∷ (1, bytes (0xc2 ∷ 0xa0 ∷ anIcon))
+    ∷ (1, record { kind = element; name = codes "img"; value = []; attributes = record { name = codes "alt"; value = anIcon } ∷ [] })
+    ∷ (1, record { kind = comment; name = []; value = anIcon; attributes = [] })
     ∷ []
 
 unfoldable pub pages : List Example
@@ -98,6 +126,9 @@ pages =
     -- options
     ∷ page strict ((0, plain "body") ∷ (1, tagged "p" ("class" is "hidden" ∷ [])) ∷ (1, tagged "p" ("class" is "comments" ∷ [])) ∷ (1, plain "div") ∷ (2, plain "div") ∷ (3, tagged "p" ("class" is "byline" ∷ [])) ∷ []) 0 (2 ∷ 5 ∷ [])
     ∷ page main ((0, plain "body") ∷ (1, tagged "p" ("class" is "hidden" ∷ [])) ∷ (1, tagged "p" ("class" is "comments" ∷ [])) ∷ (1, plain "div") ∷ (2, plain "div") ∷ (3, tagged "p" ("class" is "byline" ∷ [])) ∷ []) 0 (1 ∷ [])
+    -- an icon of plane 15 in blanks, beside U+00A0, in an alt and in a comment; with icons 0 no row is dropped
+    ∷ page (withIcons true main) someIcons 0 (1 ∷ [])
+    ∷ page main someIcons 0 []
     -- sign-in at depth 2 and at depth 3
     ∷ page main ((0, plain "body") ∷ (1, plain "div") ∷ (2, tagged "p" ("class" is "login" ∷ [])) ∷ (2, plain "div") ∷ (3, tagged "p" ("class" is "login" ∷ [])) ∷ []) 0 (4 ∷ [])
     -- links: 2 of 10 bytes are not more than a fifth, 3 are

@@ -2,6 +2,8 @@
 use mathlib.Core.Path.{refl}
 use Rattle.common.specs.Bytes.{codes, same}
 use Rattle.text.specs.Text.{isAsciiWhitespace, isSpace, trimStartBy, rstripBy, trimBy, collapseFrom, collapseBy, escaped, escape}
+use Rattle.utf8.specs.Character.{isCharacter}
+use Rattle.utf8.specs.Encoding.{encode}
 use Rattle.utf8.specs.Valid.{expect, valid}
 use Rattle.sheet.specs.Columns.{columns, fieldOf}
 use Rattle.sheet.specs.Layout.{rowAt, attributeAt, depthsFrom}
@@ -24,7 +26,7 @@ use Rattle.patterns.specs.Patterns.{patterns}
 use Rattle.links.specs.Links.{isLink, linksAmong, linkBytes, measureOf, linkCluster}
 use Rattle.filters.specs.Filters.{hiddenByAttribute, notDisplayed, skipLink, signinMetaOrSocial, adAttribute, logoOrAd, notBlock, relMain, roleOutside, commentSection, article, landmark, byBlock, byClassAndId, byAttributes, byName, isMainContent, filterDepth, filtered}
 use Rattle.filters.specs.Footer.{isBody, isNotText, bodyFrom, followedFrom}
-use Rattle.filters.specs.Icon.{inLegacyRange, inPrivateUse, isIcon}
+use Rattle.filters.specs.Icon.{inLegacyRange, isLegacyIcon, isIconCharacter, isIcon}
 use Rattle.html2text.specs.Collect.{addedByElement, added, collect, collectAll}
 use Rattle.html2text.specs.Extract.{serialized, longestText, namesLength, longestNames, extraction, outAfter, extractionOf, outAfterOf}
 use Rattle.html2text.specs.Serialize.{endsBlank, separated, marginOut, margin, rows, between, besideCell, inRow, cell, countUncollapsed, level, numberOf, item, itemOut, htmlItem, htmlPre, htmlBr, htmlMarks, beforeTag, tagOut, htmlTag, blockMargin, indentText, lead, putText, afterOff, afterBasic, finishHtml, afterHtml, stepBy}
@@ -58,7 +60,7 @@ unfolding
     isLink textLength linksAmong linkBytes measureOf linkCluster
     hiddenByAttribute notDisplayed skipLink signinMetaOrSocial adAttribute logoOrAd notBlock relMain roleOutside commentSection article landmark byBlock byClassAndId byAttributes byName isMainContent filterDepth filtered
     isBody isNotText bodyFrom followedFrom
-    inLegacyRange inPrivateUse isIcon
+    inLegacyRange isLegacyIcon isIconCharacter isCharacter encode isIcon
     addedByElement added collect collectAll
     serialized longestText namesLength longestNames extraction outAfter
     endsBlank separated marginOut margin rows between besideCell inRow cell countUncollapsed level numberOf item itemOut htmlItem htmlPre htmlBr htmlMarks beforeTag tagOut htmlTag blockMargin indentText lead putText afterOff afterBasic finishHtml afterHtml stepBy
