@@ -7,6 +7,7 @@
 # SMALL=1: all small pages in the place of generated ones, COUNT of them from FROM on (there are 112,723).
 # REAL=N: N pages of Debian's documentation packages, each under five option lines (oracle/pages.py; Debian's own python3 has html5lib).
 # CASES=FILE: those cases, and no others.
+# ICONS=1: option lines with icons 1, against the Rust with that one rule replaced (oracle/rust/icons.diff); no worked or real pages.
 # NEEDS=1: the numbers of 31 and 32 are compared too, with oracle/reference.py's.
 set -eu
 sources=$(realpath "$1")
@@ -15,11 +16,13 @@ here=$PWD
 cd "$(dirname "$0")/.."
 oracle/build.sh "$sources"
 made=target/oracle
-rust="$made/rust/target/release/oracle"
+kind=rust
+[ -z "${ICONS:-}" ] || kind=icons
+rust="$made/$kind/target/release/oracle"
 case ${READER:-reader} in
 reference) reader="python3 oracle/reference.py" ;;
 stand-in)
-    cc -O2 -Wall -DSTAND_IN -o "$made/stand_in" oracle/driver.c "$made/rust/target/release/liboracle.a" -lpthread -ldl -lm
+    cc -O2 -Wall -DSTAND_IN -o "$made/stand_in" oracle/driver.c "$made/$kind/target/release/liboracle.a" -lpthread -ldl -lm
     reader=$made/stand_in
     ;;
 reader)
@@ -43,9 +46,11 @@ compared() {
         python3 oracle/reference.py --needs < "$1" | cmp - "$kept/by_reader"
     fi
 }
-python3 oracle/pages.py worked > "$kept/cases"
-"$rust" run < "$kept/cases" | python3 oracle/pages.py check
-$reader < "$kept/cases" | python3 oracle/pages.py check
+if [ -z "${ICONS:-}" ]; then
+    python3 oracle/pages.py worked > "$kept/cases"
+    "$rust" run < "$kept/cases" | python3 oracle/pages.py check
+    $reader < "$kept/cases" | python3 oracle/pages.py check
+fi
 if [ -n "${REAL:-}" ]; then
     /usr/bin/python3 oracle/pages.py real "$REAL" > "$kept/cases"
     compared "$kept/cases"

@@ -70,6 +70,7 @@ STANDING = "1011001100"
 OFF = "0011001100"
 HTML = "2011001100"
 MAIN = "1111001100"
+ICONS = "1111001101"
 
 
 def linked(total, links):
@@ -92,7 +93,7 @@ DOCUMENT = [
     ("1011101100", '<a href=" u ">t</a>', "t (u)"),
     (HTML, "<p>a&b</p>", "<p>a&amp;b</p>"),
     (MAIN, "<td>−<b>0.4</b></td>", "0.4"),
-    ("1111001101", "<td>−<b>0.4</b></td>", "−0.4"),
+    (ICONS, "<td>−<b>0.4</b></td>", "−0.4"),
     (MAIN, "\uE000", ""),
     (MAIN, "\uF8FF", ""),
     (MAIN, "−", ""),
@@ -107,6 +108,15 @@ DOCUMENT = [
     (MAIN, '<p id="ad">t</p>', ""),
     (MAIN, '<p id="ad x">t</p>', "t"),
     (STANDING, "hi", "hi"),
+]
+
+# document 02, request 2: the ends of the private-use ranges and "¶", what stands beside them, two characters, blanks around, icons 0
+PRIVATE = [(ICONS, c, "") for c in "\uE000\uF8FF\U000F0000\U000FFFFD\U00100000\U0010FFFD¶"]
+PRIVATE += [(ICONS, c, c) for c in "\uF900\U000EFFFF\U000FFFFE\U0010FFFE−\uFFFD"]
+PRIVATE += [(ICONS, s, s) for s in ["\uE000\uE000", "\u00A0\uE000"]]
+PRIVATE += [
+    (ICONS, "<td> \n\U000F0000\t <b>0.4</b></td>", "0.4"),
+    (MAIN, "<td>\U000F0000<b>0.4</b></td>", "\U000F00000.4"),
 ]
 
 # quirks of the Rust, and the false friends
@@ -186,7 +196,7 @@ FILTERS = [
     (MAIN, "<ul><li>t</li></ul>", ""),
     (MAIN, "<ol><li>t</li></ol>", "  1. t"),
 ]
-WORKED = DOCUMENT + QUIRKS + FILTERS
+WORKED = DOCUMENT + PRIVATE + QUIRKS + FILTERS
 
 
 def long_pages():

@@ -101,9 +101,11 @@ def main_met(said, p, o, i, depth):
         yield "options", o.comments, o.post_meta, o.hidden_elements, said
     else:
         text = reference.trim(n.value)
-        yield "icon", said, o.icons, len(text) if len(text) < 4 else 4, text[0] >> 4 if text else 0, text != n.value
+        yield "icon", said, o.icons, min(len(text), 5), text[0] >> 4 if text else 0, text != n.value
         if len(text) == 3:
             yield "bytes", said, o.icons, text[0] in (0xE2, 0xEE, 0xEF) and text[0], text[1] in (0x80, 0xA3, 0xA4) and text[1], text[2] in (0x80, 0xBF) and text[2]
+        if len(text) == 4 and text[0] in (0xF3, 0xF4):
+            yield "bytes", said, o.icons, text[0], text[1] in (0x80, 0x8F, 0xAF, 0xB0, 0xBF) and text[1], text[2] == 0xBF, text[3] > 0xBC and text[3]
 
 
 def block_met(said, o, cluster, depth, name, attributes, class_, id_):

@@ -1,7 +1,8 @@
 #!/usr/bin/env python3
 """The definitions of crates/{text,tags,tree,links,patterns,filters,html2text}/specs, word for word in Python, to be run beside
 the Rust: that the two agree says that the definitions mean what html2text.rs and filters.rs do. Nothing here was taken from the
-Rust. The patterns are read from crates/patterns/specs/Patterns.antt.
+Rust. The patterns are read from crates/patterns/specs/Patterns.antt; which character is private use is asked of Python's table of
+Unicode (general category Co).
 
 Use: reference.py [--program] [--out N] [--work N] [--laws] < cases > answers      (cases and answers as in oracle/rust/src/cases.rs)
 --program: what document 01's program prints, 33 and 34 too. --out, --work: the lengths of the lent buffers (none: long enough). --laws: the theorems on pages are tried on each case too.
@@ -10,6 +11,7 @@ Sheets must be accepted ones."""
 import os
 import re
 import sys
+import unicodedata
 from fractions import Fraction
 
 sys.setrecursionlimit(100000)
@@ -327,13 +329,14 @@ def joined(class_, id_):
 
 
 def is_icon(icons, text):
+    if icons:
+        characters = text.decode()
+        return characters == "\u00b6" or len(characters) == 1 and unicodedata.category(characters) == "Co"
     if text == b"\xc2\xb6":
         return True
     if len(text) != 3:
         return False
     a, b, c = text
-    if icons:
-        return 0xEE8080 <= 65536 * a + 256 * b + c <= 0xEFA3BF
     return 0x8080EE <= a + 256 * b + 65536 * c <= 0xBFA3EF
 
 

@@ -22,9 +22,12 @@ pub fn unframed(bytes: &[u8]) -> Vec<&[u8]> {
     cases
 }
 
-/// The options of ten digits and LF. Only icons 0 is the Rust's.
+/// The digit of icons. Only 0 is the Rust's; built with ICONS it is 1, and the rule is that of oracle/rust/icons.diff.
+pub const ICONS: u8 = if option_env!("ICONS").is_some() { b'1' } else { b'0' };
+
+/// The options of ten digits and LF.
 pub fn options(line: &[u8]) -> Option<ExtractOptions> {
-    let [f, flags @ .., b'0', b'\n'] = line else {
+    let [f, flags @ .., ICONS, b'\n'] = line else {
         return None;
     };
     if line.len() != 11 || flags.iter().any(|b| !matches!(b, b'0' | b'1')) {

@@ -1,5 +1,6 @@
 //! Sheets for the comparison. A case is fixed by the seed and its number. Every sheet is an accepted one.
 
+use crate::cases::ICONS;
 use crate::random::Random;
 use crate::sheet;
 
@@ -162,9 +163,10 @@ fn mark(random: &mut Random, percent: usize, tree: &mut Tree) {
 
 // ---- options
 
-/// The 768 option lines with icons 0.
+/// The 768 option lines with icons 0, or 1.
 fn option_line(k: usize) -> [u8; 11] {
     let mut line = *b"0000000000\n";
+    line[9] = ICONS;
     line[0] = b'0' + (k % 3) as u8;
     for j in 0..8 {
         line[1 + j] = b'0' + (k / 3 >> j & 1) as u8;
@@ -239,11 +241,14 @@ fn any_text(random: &mut Random) -> String {
     s
 }
 
-/// A text of three bytes, of "¶", or of a little more.
+/// The ends of the private-use ranges, and what stands beside them.
+const ENDS: &str = "\u{D7FF}\u{E000}\u{F8FF}\u{F900}\u{EFFFF}\u{F0000}\u{FFFFD}\u{FFFFE}\u{FFFFF}\u{100000}\u{10FFFD}\u{10FFFE}\u{10FFFF}";
+
+/// A text of three bytes, of "¶", of private use, or of a little more.
 fn icon_text(random: &mut Random) -> String {
     let two = |random: &mut Random| char::from_u32(random.between(0x80, 0x7FF) as u32).unwrap();
     let one = |random: &mut Random| random.between(0x21, 0x7E) as u8 as char;
-    let core: String = match random.below(12) {
+    let core: String = match random.below(16) {
         0 => "¶".into(),
         1 => "\u{E000}".into(),
         2 => "\u{F8FF}".into(),
@@ -259,6 +264,10 @@ fn icon_text(random: &mut Random) -> String {
             let bytes = [*random.one(&[0xE2, 0xED, 0xEE, 0xEF]), *random.one(&[0x80, 0x81, 0x9F, 0xA2, 0xA3, 0xA4, 0xBF]), *random.one(&[0x80, 0x81, 0xBE, 0xBF])];
             std::str::from_utf8(&bytes).unwrap_or("¶").into()
         }
+        11 => ENDS.chars().nth(random.below(13)).unwrap().into(),
+        12 => char::from_u32(random.between(0xEFF00, 0x10FFFF) as u32).unwrap().into(),
+        13 => char::from_u32(random.between(0, 0x10FFFF) as u32).unwrap_or('¶').into(),
+        14 => "\u{A0}\u{E000}".into(),
         _ => char::from_u32(random.between(0x800, 0xFFFF) as u32).unwrap_or('−').into(),
     };
     let core = if random.percent(10) { core.clone() + &core } else { core };
@@ -592,6 +601,7 @@ fn smallest(k: usize) -> ([u8; 11], Vec<Tree>) {
     let k = (k * 104729) % total;
     let (o, k) = (k % 48, k / 48);
     let mut line = *b"1000001100\n";
+    line[9] = ICONS;
     line[0] = b'0' + (o % 3) as u8;
     for j in 0..4 {
         line[2 + j] = b'0' + (o / 3 >> j & 1) as u8;
@@ -806,6 +816,7 @@ pub fn case(seed: u64, number: u64) -> Vec<u8> {
     let mut layout = *random.one(&[Layout::Apart, Layout::Overlapping, Layout::Overlapping, Layout::Littered]);
     let any = any_options(random);
     let (options, trees) = match number % 16 {
+        0..4 if ICONS == b'1' => (main_content_options(random), icons(random)),
         0 | 1 => {
             (marks, root) = (0, Root::Body);
             smallest(group * 2 + (number % 16) as usize)
