@@ -17,7 +17,7 @@ use Rattle.utf8.specs.Encoding.{encode}
 use Rattle.utf8.specs.Valid.{within}
 use Rattle.utf8.proofs.CharacterLaws.{Three, Four, no-character, too-long, three-octets, four-octets}
 use Rattle.filters.specs.Icon.{isPilcrow, inLegacyRange, ofThree, isLegacyIcon}
-use Rattle.filters.specs.Icon.{privateUseArea, inUpperPlanes, isIconCharacter, isPrivateIcon}
+use Rattle.filters.specs.Icon.{privateUseArea, inUpperPlanes, isIconCharacter, isPrivateIcon, isIcon}
 
 -- ---- a number and a range
 
@@ -137,6 +137,11 @@ icon-two a b =
     let other : s ≡ pilcrow → ⊥ =
     λ q. eqb-false n 0xB6 e (omega (arith, ap (λ (t : Bytes). getD t 0 0) q, ap (λ (t : Bytes). getD t 1 0) q)) in
     rw (icon-below n (omega arith), e, same-not s pilcrow other) (sym (and-false (same s (encode n)))))
+
+pub too-long-icon : (icons : Bool) (s : Bytes) → 4 < length s → false ≡ isIcon icons s
+unfolding isIcon
+too-long-icon true s h = sym (too-long isIconCharacter s h)
+too-long-icon false s h = legacy-size s (same-length s pilcrow (λ e. omega (arith, h, e))) (λ e. omega (arith, h, e))
 
 pub private-other : (s : Bytes) → (length s ≡ 4 → ⊥) → (length s ≡ 3 → ⊥) → isPilcrow s ≡ isPrivateIcon s
 unfolding same

@@ -114,6 +114,10 @@ fn is_private_icon(text: &[u8]) -> bool
 pub fn is_icon(icons: bool, text: &[u8]) -> bool
     ensures { λ r. ⌜ r ≡ isIcon icons (now (text .entry)) ⌝ }
 {
+    // no character has more octets
+    if text.len() > 4 {
+        return false;
+    }
     if icons {
         return is_private_icon(text);
     }
