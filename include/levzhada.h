@@ -19,9 +19,9 @@
 extern "C" {
 #endif
 
-#define LEVZHADA_VERSION "0.2.0"
+#define LEVZHADA_VERSION "0.3.0"
 #define LEVZHADA_VERSION_MAJOR 0
-#define LEVZHADA_VERSION_MINOR 2
+#define LEVZHADA_VERSION_MINOR 3
 #define LEVZHADA_VERSION_PATCH 0
 
 /* The numbers, and what the second number is with each. The header is line 0, row 0 line 1. */

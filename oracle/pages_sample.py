@@ -182,7 +182,7 @@ def main():
     cases = difference.split_cases(open(candidates, "rb").read())
     program = coverage.Program(program)
     watch()
-    always = set(difference.split_cases(b"".join(pages.framed(o, pages.written(m)) for o, m, _ in pages.DOCUMENT + pages.QUIRKS)))
+    always = set(difference.split_cases(b"".join(pages.framed(o, pages.written(m)) for o, m, _ in pages.DOCUMENT + pages.PRIVATE + pages.QUIRKS)))
     always |= set(pages.long_pages())
     found = []
     for case, moved in zip(cases, coverage.read_counts(open(counts, "rb").read())):

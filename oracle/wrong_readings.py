@@ -23,10 +23,12 @@ WRONG = [
     # icons
     ("the range's last", "0xBFA3EF", "0xBFA3EE"),
     ("the range's first", "return 0x8080EE <=", "return 0x8080EE <"),
-    ("private use's last", "0xEFA3BF", "0xEFA3BE"),
-    ("private use's first", "return 0xEE8080 <=", "return 0xEE8080 <"),
     ("an icon is not trimmed", "is_icon(o.icons, trim(n.value))", "is_icon(o.icons, n.value)"),
     ("a pilcrow is no icon", "if text == b\"\\xc2\\xb6\":", "if False:"),
+    ("icons 1, a pilcrow is none", "characters == \"\\u00b6\" or ", ""),
+    ("icons 1, the first character decides", "len(characters) == 1 and unicodedata.category(characters)", "characters != \"\" and unicodedata.category(characters[0])"),
+    ("icons 1, what is not assigned too", "== \"Co\"", "in (\"Co\", \"Cn\")"),
+    ("icons 1, the first plane alone", "== \"Co\"", "== \"Co\" and characters < \"\\uFFFF\""),
     # collect
     ("an entry at the same depth", "depth < last) or", "depth <= last) or"),
     ("a textarea is no pre", "    if is_pre(t) or is_textarea(t):", "    if is_pre(t):"),
@@ -89,6 +91,10 @@ WRONG = [
     ("attributes are not trimmed", "return one_of(trim(attr_of(attributes, name)), words(values))", "return one_of(attr_of(attributes, name), words(values))"),
     ("an empty hidden", "return attribute(attributes, name.encode()) is not None", "return attribute(attributes, name.encode()) not in (None, b\"\")"),
 ]
+
+# the ends of the private-use ranges
+for end in "\\uE000", "\\uF8FF", "\\U000F0000", "\\U000FFFFD", "\\U00100000", "\\U0010FFFD":
+    WRONG.append(("icons 1, not " + end, "== \"Co\"", "== \"Co\" and characters != \"%s\"" % end))
 
 # these change nothing that a sheet can show
 SAME = [

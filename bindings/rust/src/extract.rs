@@ -28,7 +28,8 @@ pub struct Options {
     pub comments: bool,
     pub post_meta: bool,
     pub hidden_elements: bool,
-    /// Which text is an icon: false as the Rust has it, true private use and "¶" alone.
+    /// Which text is an icon: false as the Rust has it; true "¶", and one private-use character (U+E000 to U+F8FF, U+F0000 to
+    /// U+FFFFD, U+100000 to U+10FFFD).
     pub icons: bool,
 }
 

@@ -56,6 +56,18 @@ fn texts() {
 }
 
 #[test]
+fn icons() {
+    let mut options = Options::default();
+    options.main_content = true;
+    check_text(&rows(1, 3, "\u{F0000}"), &options, "\u{F0000}", 3);
+    check_text(&rows(1, 3, "−"), &options, "", 3);
+    options.icons = true;
+    check_text(&rows(1, 3, "\u{F0000}"), &options, "", 3);
+    check_text(&rows(1, 3, "\u{FFFFE}"), &options, "\u{FFFFE}", 3);
+    check_text(&rows(1, 3, "−"), &options, "−", 3);
+}
+
+#[test]
 fn buffers_grow() {
     let word = "x".repeat(5000);
     check_text(&rows(1, 3, &word), &Options::default(), &word, 3);
