@@ -6,7 +6,7 @@ ghost use mathlib.Core.List.{[], _∷_};
 ghost use mathlib.Core.Path.{_≡_};
 ghost use Rattle.utf8.specs.Abnf.{%x_-_};
 ghost use Rattle.utf8.specs.Valid.{within};
-ghost use Rattle.filters.specs.Icon.{inLegacyRange, inUpperPlanes, isIcon, isLegacyIcon, isPilcrow, isPrivateIcon};
+ghost use Rattle.filters.specs.Icon.{inLegacyRange, inUpperPlanes, isIcon, isLegacyIcon, isPilcrow, isPrivateIcon, privateUseArea};
 
 fn wide(b: u8) -> u32
     ensures { λ r. ⌜ r ≡ b ⌝ }
@@ -54,6 +54,12 @@ fn is_legacy_icon(text: &[u8]) -> bool
     in_legacy_range(text[0], text[1], text[2])
 }
 
+fn in_private_use_area(c: u32) -> bool
+    ensures { λ r. ⌜ r ≡ within privateUseArea c ⌝ }
+{
+    within(c, 0xE000, 0xF8FF)
+}
+
 // 1110xxxx 10xxxxxx 10xxxxxx
 fn is_icon_of_three(a: u8, b: u8, c: u8) -> bool
     ensures { λ r. ⌜ r ≡ isPrivateIcon (a ∷ b ∷ c ∷ []) ⌝ }
@@ -67,7 +73,7 @@ fn is_icon_of_three(a: u8, b: u8, c: u8) -> bool
     if !is_tail(c) {
         return false;
     }
-    within(number_of_three(a, b, c), 0xE000, 0xF8FF)
+    in_private_use_area(number_of_three(a, b, c))
 }
 
 // Private use in planes 15 and 16; the last two numbers of a plane are no characters.

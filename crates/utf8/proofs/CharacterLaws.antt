@@ -14,22 +14,8 @@ use Rattle.utf8.specs.Abnf.{UTF8-tail}
 use Rattle.utf8.specs.Character.{number, isCharacter, OneCharacter}
 use Rattle.utf8.specs.Encoding.{Scalar, tail, encode, encodeAll}
 use Rattle.utf8.specs.Valid.{within}
-use Rattle.utf8.proofs.Encodings.{encode-1, encode-2, encode-3, encode-4}
+use Rattle.utf8.proofs.Encodings.{encode-3, encode-4, by-form}
 use Rattle.utf8.proofs.Parts.{within-bounds}
-
--- a fact of an encoding, by its four forms
-by-form {ℓ} : (P : Bytes → Type ℓ) (c : ℕ) → (c ≤ 0x7F → P (c ∷ []))
-    → (0x7F < c → c ≤ 0x7FF → P ((0xC0 + c / 64) ∷ tail c 1 ∷ []))
-    → (0x7FF < c → c ≤ 0xFFFF → P ((0xE0 + c / 4096) ∷ tail c 64 ∷ tail c 1 ∷ []))
-    → (0xFFFF < c → P ((0xF0 + c / 262144) ∷ tail c 4096 ∷ tail c 64 ∷ tail c 1 ∷ []))
-    → P (encode c)
-by-form P c f g h k =
-    by-test (leb c 0x7F) (λ p. let l = leb-true c 0x7F p in rw (encode-1 c l) (f l))
-    (λ p.
-    by-test (leb c 0x7FF) (λ q. let l = leb-false c 0x7F p in let m = leb-true c 0x7FF q in rw (encode-2 c l m) (g l m))
-    (λ q.
-    by-test (leb c 0xFFFF) (λ r. let l = leb-false c 0x7FF q in let m = leb-true c 0xFFFF r in rw (encode-3 c l m) (h l m))
-    (λ r. let l = leb-false c 0xFFFF r in rw (encode-4 c l) (k l))))
 
 -- the six bits of a tail
 tail-bits : (c unit : ℕ) → tail c unit % 64 ≡ c / unit % 64

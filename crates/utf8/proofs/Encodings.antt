@@ -1,9 +1,9 @@
 -- The grammar accepts exactly the concatenations of encodings of scalar values.
-use mathlib.Core.Path.{_≡_, refl, sym, ap, ap₂, _∙_, subst}
-use mathlib.Core.Bool.{Bool, true, false, cond}
+use mathlib.Core.Path.{_≡_, refl, sym, ap₂, _∙_, subst}
+use mathlib.Core.Bool.{true}
 use mathlib.Core.List.{List, [], _∷_, _++_}
-use mathlib.Core.Logic.{_⊎_, inl, inr}
-use Prim.Native.Nat.{ℕ, _+_, _-_, _*_, _/_, _%_, _≤_, _<_}
+use mathlib.Core.Logic.{inl, inr}
+use Prim.Native.Nat.{ℕ, _+_, _-_, _*_, _/_, _≤_, _<_}
 use native.Mathlib.Omega.{arith}
 use lib.Dec.{leb}
 use lib.ListN.{getD}
@@ -24,11 +24,11 @@ record Decoded (s : Bytes) : Type 0 where
 -- ---- the four forms
 
 module _ (c : ℕ) where
-  pub encode-1 : c ≤ 0x7F → encode c ≡ c ∷ []
+  encode-1 : c ≤ 0x7F → encode c ≡ c ∷ []
   unfolding encode
   encode-1 h = rw (le-leb c 0x7F h)
 
-  pub encode-2 : 0x7F < c → c ≤ 0x7FF → encode c ≡ (0xC0 + c / 64) ∷ tail c 1 ∷ []
+  encode-2 : 0x7F < c → c ≤ 0x7FF → encode c ≡ (0xC0 + c / 64) ∷ tail c 1 ∷ []
   unfolding encode
   encode-2 h k = rw (lt-leb c 0x7F h, le-leb c 0x7FF k)
 
@@ -39,6 +39,20 @@ module _ (c : ℕ) where
   pub encode-4 : 0xFFFF < c → encode c ≡ (0xF0 + c / 262144) ∷ tail c 4096 ∷ tail c 64 ∷ tail c 1 ∷ []
   unfolding encode
   encode-4 h = rw (lt-leb c 0x7F (omega arith), lt-leb c 0x7FF (omega arith), lt-leb c 0xFFFF h)
+
+-- a fact of an encoding, by its four forms
+pub by-form {ℓ} : (P : Bytes → Type ℓ) (c : ℕ) → (c ≤ 0x7F → P (c ∷ []))
+    → (0x7F < c → c ≤ 0x7FF → P ((0xC0 + c / 64) ∷ tail c 1 ∷ []))
+    → (0x7FF < c → c ≤ 0xFFFF → P ((0xE0 + c / 4096) ∷ tail c 64 ∷ tail c 1 ∷ []))
+    → (0xFFFF < c → P ((0xF0 + c / 262144) ∷ tail c 4096 ∷ tail c 64 ∷ tail c 1 ∷ []))
+    → P (encode c)
+by-form P c f g h k =
+    by-test (leb c 0x7F) (λ p. let l = leb-true c 0x7F p in rw (encode-1 c l) (f l))
+    (λ p.
+    by-test (leb c 0x7FF) (λ q. let l = leb-false c 0x7F p in let m = leb-true c 0x7FF q in rw (encode-2 c l m) (g l m))
+    (λ q.
+    by-test (leb c 0xFFFF) (λ r. let l = leb-false c 0x7FF q in let m = leb-true c 0xFFFF r in rw (encode-3 c l m) (h l m))
+    (λ r. let l = leb-false c 0xFFFF r in rw (encode-4 c l) (k l))))
 
 -- ---- from octets to their value
 
@@ -172,10 +186,7 @@ module _ (c : ℕ) where
 
   accepted : Scalar c → OneOf UTF8-char (encode c)
   accepted v =
-      by-test (leb c 0x7F) (λ e. rw (encode-1 c (leb-true c 0x7F e)) (inl (omega (arith, leb-true c 0x7F e))))
-      (λ e. by-test (leb c 0x7FF) (λ f. let h = leb-false c 0x7F e in let k = leb-true c 0x7FF f in rw (encode-2 c h k) (inr (inl (octets-2 h k))))
-      (λ f. by-test (leb c 0xFFFF) (λ g. let h = leb-false c 0x7FF f in let k = leb-true c 0xFFFF g in rw (encode-3 c h k) (octets-3 h k v))
-      (λ g. let h = leb-false c 0xFFFF g in rw (encode-4 c h) (octets-4 h (v .most)))))
+      by-form (OneOf UTF8-char) c (λ h. inl (omega (arith, h))) (λ h k. inr (inl (octets-2 h k))) (λ h k. octets-3 h k v) (λ h. octets-4 h (v .most))
 
 -- ---- one character after the other
 

@@ -1,14 +1,14 @@
 -- `valid` answers yes exactly for the octets of RFC 3629, section 4.
 use mathlib.Core.Path.{_≡_, refl, sym, ap, _∙_, subst}
-use mathlib.Core.Bool.{Bool, true, false, _&&_, cond}
+use mathlib.Core.Bool.{Bool, true, false, cond}
 use mathlib.Core.List.{List, [], _∷_, _++_}
-use mathlib.Core.Logic.{_⊎_, inl, inr, ⊎-elim}
-use Prim.Native.Nat.{ℕ, _+_, _≤_, _<_}
+use mathlib.Core.Logic.{inl, inr}
+use Prim.Native.Nat.{ℕ, _+_, _≤_}
 use native.Mathlib.Omega.{arith}
-use lib.Dec.{leb, ltb}
-use borrow.Author.Tests.{leb-true, le-leb, lt-leb, ltb-true}
+use lib.Dec.{leb}
+use borrow.Author.Tests.{leb-true, le-leb, lt-leb}
 use Rattle.common.specs.Bytes.{Bytes}
-use Rattle.common.proofs.Choice.{by-test, absurd-test, and-parts, and-both}
+use Rattle.common.proofs.Choice.{absurd-test, and-parts}
 use Rattle.utf8.specs.Abnf.{Range, UTF8-char, Sequence, OneOf, UTF8-octets, none, more}
 use Rattle.utf8.specs.Valid.{within, never, follow, expect, valid, ValidIsGrammar}
 

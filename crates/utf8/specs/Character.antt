@@ -6,7 +6,7 @@ use Prim.Native.Nat.{ℕ, _+_, _*_, _%_}
 use Rattle.common.specs.Bytes.{Bytes, same}
 use Rattle.utf8.specs.Encoding.{encode}
 
--- "Decoding a UTF-8 character": the bits x of the octets, put together
+-- "Decoding a UTF-8 character": the bits x of the octets, put together; of more than four octets, those of the first four
 abbrev pub number : Bytes → ℕ
 number [] = 0
 number (a ∷ []) = a % 128

@@ -242,7 +242,10 @@ fn any_text(random: &mut Random) -> String {
 }
 
 /// The ends of the private-use ranges, and what stands beside them.
-const ENDS: &str = "\u{D7FF}\u{E000}\u{F8FF}\u{F900}\u{EFFFF}\u{F0000}\u{FFFFD}\u{FFFFE}\u{FFFFF}\u{100000}\u{10FFFD}\u{10FFFE}\u{10FFFF}";
+const ENDS: [char; 13] = [
+    '\u{D7FF}', '\u{E000}', '\u{F8FF}', '\u{F900}', '\u{EFFFF}', '\u{F0000}', '\u{FFFFD}', '\u{FFFFE}', '\u{FFFFF}', '\u{100000}',
+    '\u{10FFFD}', '\u{10FFFE}', '\u{10FFFF}',
+];
 
 /// A text of three bytes, of "¶", of private use, or of a little more.
 fn icon_text(random: &mut Random) -> String {
@@ -264,7 +267,7 @@ fn icon_text(random: &mut Random) -> String {
             let bytes = [*random.one(&[0xE2, 0xED, 0xEE, 0xEF]), *random.one(&[0x80, 0x81, 0x9F, 0xA2, 0xA3, 0xA4, 0xBF]), *random.one(&[0x80, 0x81, 0xBE, 0xBF])];
             std::str::from_utf8(&bytes).unwrap_or("¶").into()
         }
-        11 => ENDS.chars().nth(random.below(13)).unwrap().into(),
+        11 => (*random.one(&ENDS)).into(),
         12 => char::from_u32(random.between(0xEFF00, 0x10FFFF) as u32).unwrap().into(),
         13 => char::from_u32(random.between(0, 0x10FFFF) as u32).unwrap_or('¶').into(),
         14 => "\u{A0}\u{E000}".into(),

@@ -30,4 +30,4 @@ is-icon-of-three-spec =
       sym (here .before .before .before .is-tail .ensures) ∙ not-false _ (here .before .before .if2 .left),
       sym (here .before .is-tail2 .ensures) ∙ not-false _ (here .if3 .left),
     )
-    (c .before .number-of-three .ensures) (c .within .ensures)))
+    (c .before .number-of-three .ensures) (c .in-private-use-area .ensures)))
