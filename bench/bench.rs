@@ -1,14 +1,17 @@
 //! Times the Rust (html2text.rs and filters.rs, unchanged, its tree already built) and the reader (sheet and all, through the C
-//! functions of oracle/driver.c, with the sheet's validation and without it) on the same pages, run after run in turns, and prints the medians in one table.
-//! bench [CASES]: with a file of cases, those too, all of one option line together.
+//! functions of oracle/driver.c, with the sheet's validation and without it) on the same pages, run after run in turns, and prints the
+//! medians in one table. Built with BEFORE, an older build of the reader too, whose answers and bytes must be the reader's.
+//! bench [CASES]: with a file of cases, those too, all of one option line together, and how many of them are slower.
 use oracle::cases;
-use oracle::extract::html2text::extract_plain_text;
+use oracle::extract::html2text::{ExtractOptions, extract_plain_text};
 use oracle::parse::html::tree::HtmlTree;
 use oracle::random::Random;
 use oracle::sheet;
+use std::hint::black_box;
 use std::time::Instant;
 
 #[repr(C)]
+#[derive(Debug, PartialEq)]
 struct Answer {
     number: u64,
     second: u64,
@@ -16,10 +19,24 @@ struct Answer {
     length: u64,
 }
 
+/// Of an option line, a sheet, out and work.
+type Extract = unsafe extern "C" fn(*const u8, *const u8, usize, *mut u8, usize, *mut u8, usize) -> Answer;
+
 unsafe extern "C" {
     fn reader_check(sheet: *const u8, len: usize) -> u64;
-    fn reader_answer(options: *const u8, sheet: *const u8, len: usize, out: *mut u8, out_len: usize, work: *mut u8, work_len: usize) -> Answer;
+    fn reader_answer(_: *const u8, _: *const u8, _: usize, _: *mut u8, _: usize, _: *mut u8, _: usize) -> Answer;
+    fn before_answer(_: *const u8, _: *const u8, _: usize, _: *mut u8, _: usize, _: *mut u8, _: usize) -> Answer;
 }
+
+/// The older build; it is linked with BEFORE alone.
+const BEFORE: Option<Extract> = if option_env!("BEFORE").is_some() { Some(before_answer) } else { None };
+
+const BASIC: &str = "1011001100";
+const OFF: &str = "0011001100";
+const HTML: &str = "2011001100";
+const HTML_LINKS: &str = "2011101100";
+const HTML_LINKS_FORMS: &str = "2011111100";
+const MAIN_CONTENT: &str = "1111001100";
 
 // ---- pages
 
@@ -75,6 +92,18 @@ fn prose(random: &mut Random, words: usize) -> String {
         }
         s.push_str(*random.one(WORDS));
     }
+    s
+}
+
+/// Prose of so many bytes, with an `&` or a `<` about once in 200 words.
+fn prose_of(random: &mut Random, bytes: usize) -> String {
+    let mut s = String::new();
+    while s.len() < bytes {
+        s.push_str(if random.below(200) == 0 { *random.one(&["&", "<"]) } else { *random.one(WORDS) });
+        s.push_str(if random.percent(8) { "\n   " } else { " " });
+    }
+    let end = s.floor_char_boundary(bytes);
+    s.replace_range(end.., &"x".repeat(bytes - end));
     s
 }
 
@@ -219,6 +248,26 @@ fn long_text() -> Vec<u8> {
     w.bytes()
 }
 
+/// 4,190,000 bytes in ten texts: near to the most that a pool holds.
+fn four_megabytes() -> Vec<u8> {
+    let random = &mut Random(9);
+    let mut w = page();
+    for _ in 0..10 {
+        w.element(1, "p", &[]);
+        w.text(2, &prose_of(random, 419_000));
+    }
+    w.bytes()
+}
+
+fn link(bytes: usize) -> Vec<u8> {
+    let random = &mut Random(10);
+    let mut w = page();
+    w.element(1, "p", &[]);
+    w.element(2, "a", &[("href", "other.html#s2")]);
+    w.text(3, &prose_of(random, bytes));
+    w.bytes()
+}
+
 fn small() -> Vec<u8> {
     let mut w = page();
     w.element(1, "h1", &[]);
@@ -236,12 +285,85 @@ fn small() -> Vec<u8> {
     w.bytes()
 }
 
-// ---- times
+// ---- answers
 
+/// A page, what each program takes of it, and the buffers that are lent.
 struct Page {
+    name: String,
     options: Vec<u8>,
     sheet: Vec<u8>,
     rows: usize,
+    opts: ExtractOptions,
+    tree: HtmlTree,
+    out: Vec<u8>,
+    work: Vec<u8>,
+}
+
+fn page_of(name: String, options: &str, sheet: Vec<u8>) -> Page {
+    let options = format!("{}\n", options).into_bytes();
+    let read = sheet::read(&sheet).unwrap();
+    let (opts, rows, tree) = (cases::options(&options).unwrap(), read.rows.len(), HtmlTree(read.shared()));
+    let mut p = Page { name, options, sheet, rows, opts, tree, out: vec![], work: vec![] };
+    let length = lend(&mut p);
+    assert!(p.out[..length] == *extract_plain_text(&p.tree, &p.opts).unwrap().as_bytes(), "{}: the texts differ", p.name);
+    p
+}
+
+fn extract(by: Extract, p: &mut Page) -> Answer {
+    let (options, sheet, out, work) = (&p.options, &p.sheet, &mut p.out, &mut p.work);
+    unsafe { by(options.as_ptr(), sheet.as_ptr(), sheet.len(), out.as_mut_ptr(), out.len(), work.as_mut_ptr(), work.len()) }
+}
+
+/// An answer, the buffers filled before it.
+fn answer(by: Extract, p: &mut Page) -> Answer {
+    p.out.fill(0xA5);
+    p.work.fill(0xA5);
+    extract(by, p)
+}
+
+/// The reader's answer; that of the older build is the same, and so is every byte of both buffers after it.
+fn agreed(p: &mut Page) -> Answer {
+    let Some(before) = BEFORE else {
+        return answer(reader_answer, p);
+    };
+    let was = (answer(before, p), p.out.clone(), p.work.clone());
+    let a = answer(reader_answer, p);
+    assert_eq!(a, was.0, "{}: the answers of reader and older build", p.name);
+    assert!(p.out == was.1 && p.work == was.2, "{}: reader and older build leave other bytes", p.name);
+    a
+}
+
+/// Lends buffers that are long enough and no longer; then out holds the text, whose length is given.
+fn lend(p: &mut Page) -> usize {
+    loop {
+        let a = agreed(p);
+        match a.number {
+            0 => return a.length as usize,
+            31 => p.work.resize(a.second as usize, 0),
+            32 => p.out.resize(a.second as usize, 0),
+            n => panic!("{}: refused, {} {}", p.name, n, a.second),
+        }
+    }
+}
+
+// ---- times
+
+type Program = fn(&mut Page);
+
+fn by_rust(p: &mut Page) {
+    black_box(extract_plain_text(&p.tree, &p.opts).unwrap());
+}
+
+fn by_reader(p: &mut Page) {
+    black_box(extract(reader_answer, p));
+}
+
+fn by_before(p: &mut Page) {
+    black_box(extract(BEFORE.unwrap(), p));
+}
+
+fn by_check(p: &mut Page) {
+    black_box(unsafe { reader_check(p.sheet.as_ptr(), p.sheet.len()) });
 }
 
 fn median(mut times: Vec<f64>) -> f64 {
@@ -249,116 +371,134 @@ fn median(mut times: Vec<f64>) -> f64 {
     times[times.len() / 2]
 }
 
-/// ns for one time over the pages, of `f` that goes over them so often.
-fn timed(times: usize, mut f: impl FnMut()) -> f64 {
+/// ns for one time over the pages, of so many.
+fn timed(times: usize, by: Program, pages: &mut [Page]) -> f64 {
     let start = Instant::now();
     for _ in 0..times {
-        f();
+        pages.iter_mut().for_each(by);
     }
     start.elapsed().as_nanos() as f64 / times as f64
 }
 
-fn reader(p: &Page, out: &mut [u8], work: &mut [u8]) -> Answer {
-    unsafe { reader_answer(p.options.as_ptr(), p.sheet.as_ptr(), p.sheet.len(), out.as_mut_ptr(), out.len(), work.as_mut_ptr(), work.len()) }
+/// Medians, in ns for one time over the pages.
+struct Times {
+    check: f64,
+    rust: f64,
+    reader: f64,
+    before: Option<f64>,
+    /// Of the ratios of the reader's run to that of the older build beside it.
+    after_before: f64,
 }
 
-/// Buffers that are long enough and no longer.
-fn buffers(p: &Page) -> (Vec<u8>, Vec<u8>) {
-    let (mut out, mut work) = (vec![], vec![]);
-    loop {
-        let a = reader(p, &mut out, &mut work);
-        match a.number {
-            0 => return (out, work),
-            31 => work.resize(a.second as usize, 0),
-            32 => out.resize(a.second as usize, 0),
-            n => panic!("refused: {} {}", n, a.second),
-        }
+/// The programs in turns, each run about so many ns; reader and older build, the last, change places after each round.
+fn times(pages: &mut [Page], rounds: usize, ns: f64) -> Times {
+    let mut programs: Vec<Program> = vec![by_check, by_rust, by_reader];
+    if BEFORE.is_some() {
+        programs.push(by_before);
     }
+    let often: Vec<usize> = programs.iter().map(|&by| ((ns / timed(1, by, pages)) as usize).max(1)).collect();
+    let mut runs = vec![vec![]; programs.len()];
+    let mut order: Vec<usize> = (0..programs.len()).collect();
+    for _ in 0..rounds {
+        for &k in &order {
+            runs[k].push(timed(often[k], programs[k], pages));
+        }
+        order[2..].reverse();
+    }
+    let ratios = runs[2].iter().zip(runs.last().unwrap()).map(|(after, before)| after / before).collect();
+    let medians: Vec<f64> = runs.into_iter().map(median).collect();
+    Times { check: medians[0], rust: medians[1], reader: medians[2], before: medians.get(3).copied(), after_before: median(ratios) }
 }
 
-fn measure(name: &str, pages: Vec<Page>) {
+fn head() {
+    let reader = std::env::var("READER").unwrap_or("reader".into());
+    // "bare": without the sheet's validation, whose time is taken by itself
+    print!("{:34}{:>8}{:>10}{:>10}{:>10}{:>10}{:>8}{:>8}", "page", "rows", "bytes", "Rust", reader, "bare", "ratio", "bare");
+    println!("{}", if BEFORE.is_some() { format!("{:>10}{:>14}", "before", "after/before") } else { String::new() });
+    print!("{:52}{:>10}{:>10}{:>10}", "", "ns a row", "ns a row", "ns a row");
+    println!("{}", if BEFORE.is_some() { format!("{:>26}", "ns a row") } else { String::new() });
+}
+
+fn measure(name: &str, pages: &mut [Page]) {
     let rows: usize = pages.iter().map(|p| p.rows).sum();
-    let trees: Vec<_> = pages.iter().map(|p| (HtmlTree(sheet::read(&p.sheet).unwrap().shared()), cases::options(&p.options).unwrap())).collect();
-    let mut lent: Vec<_> = pages.iter().map(buffers).collect();
-    for ((tree, opts), (p, (out, work))) in trees.iter().zip(pages.iter().zip(&mut lent)) {
-        let text = extract_plain_text(tree, opts).unwrap();
-        let a = reader(p, out, work);
-        assert!(a.number == 0 && out[..a.length as usize] == *text.as_bytes(), "{}: the texts differ", name);
-    }
-    let mut by_rust = || {
-        for (tree, opts) in &trees {
-            std::hint::black_box(extract_plain_text(tree, opts).unwrap());
-        }
-    };
-    let mut by_reader = || {
-        for (p, (out, work)) in pages.iter().zip(&mut lent) {
-            std::hint::black_box(reader(p, out, work).length);
-        }
-    };
-    let mut by_check = || {
-        for p in &pages {
-            std::hint::black_box(unsafe { reader_check(p.sheet.as_ptr(), p.sheet.len()) });
-        }
-    };
-    // about 20 ms a run
-    let times = |ns: f64| ((20e6 / ns) as usize).max(1);
-    let (rust_times, reader_times) = (times(timed(1, &mut by_rust)), times(timed(1, &mut by_reader)));
-    let check_times = times(timed(1, &mut by_check));
-    let (mut rust, mut ours, mut checks) = (vec![], vec![], vec![]);
-    for _ in 0..11 {
-        rust.push(timed(rust_times, &mut by_rust));
-        ours.push(timed(reader_times, &mut by_reader));
-        checks.push(timed(check_times, &mut by_check));
-    }
-    let a_row = |times| median(times) / rows as f64;
-    let (rust, ours, check) = (a_row(rust), a_row(ours), a_row(checks));
     let bytes: usize = pages.iter().map(|p| p.sheet.len()).sum();
-    println!("{:34}{:8}{:10}{:10.1}{:10.1}{:10.1}{:8.2}{:8.2}", name, rows, bytes, rust, ours, ours - check, ours / rust, (ours - check) / rust);
+    // about 20 ms a run; more rounds for the smaller differences of two builds
+    let t = times(pages, if BEFORE.is_some() { 21 } else { 11 }, 20e6);
+    let a_row = |ns: f64| ns / rows as f64;
+    let (rust, reader, bare) = (a_row(t.rust), a_row(t.reader), a_row(t.reader - t.check));
+    print!("{:34}{:8}{:10}{:10.1}{:10.1}{:10.1}{:8.2}{:8.2}", name, rows, bytes, rust, reader, bare, reader / rust, bare / rust);
+    println!("{}", t.before.map_or(String::new(), |b| format!("{:10.1}{:14.3}", a_row(b), t.after_before)));
 }
 
-fn one(options: &str, sheet: Vec<u8>) -> Vec<Page> {
-    let rows = sheet::read(&sheet).unwrap().rows.len();
-    vec![Page { options: format!("{}\n", options).into(), sheet, rows }]
+/// How many of the pages' ratios are above `above`, their median, and the highest with the number of its page.
+fn slower(than: &str, above: f64, ratios: Vec<f64>) {
+    let (pages, count) = (ratios.len(), ratios.iter().filter(|&&r| r > above).count());
+    let (at, highest) = ratios.iter().enumerate().max_by(|(_, r), (_, s)| r.total_cmp(s)).unwrap();
+    print!("    above {:.2} of {}: {} of {} pages, highest {:.2} (page {})", above, than, count, pages, highest, at + 1);
+    println!(", median {:.3}", median(ratios));
+}
+
+/// Each page by itself.
+fn measure_apart(pages: &mut [Page]) {
+    let all: Vec<Times> = pages.chunks_mut(1).map(|p| times(p, 21, 1e6)).collect();
+    slower("the Rust", 1.0, all.iter().map(|t| t.reader / t.rust).collect());
+    if BEFORE.is_some() {
+        slower("before", 1.05, all.iter().map(|t| t.after_before).collect());
+    }
+}
+
+fn measure_one(name: &str, options: &str, sheet: Vec<u8>) {
+    measure(name, &mut [page_of(name.into(), options, sheet)]);
+}
+
+/// In Basic, Off and MinimalHtml.
+fn measure_each(name: &str, sheet: Vec<u8>) {
+    measure_one(name, BASIC, sheet.clone());
+    measure_one(&format!("{}, Off", name), OFF, sheet.clone());
+    measure_one(&format!("{}, MinimalHtml", name), HTML, sheet);
+}
+
+fn made_pages() {
+    measure_one("small", BASIC, small());
+    measure_each("handbook, 5,000", handbook(5_000));
+    measure_one("handbook, 5,000, main_content", MAIN_CONTENT, handbook(5_000));
+    measure_one("handbook, 20,000", BASIC, handbook(20_000));
+    measure_one("handbook, 20,000, MinimalHtml", HTML, handbook(20_000));
+    measure_one("handbook, 20,000, main_content", MAIN_CONTENT, handbook(20_000));
+    for rows in [5_000, 10_000, 20_000] {
+        measure_each(&format!("wide, {}", rows), wide(rows));
+        measure_one(&format!("wide, {}, main_content", rows), MAIN_CONTENT, wide(rows));
+        measure_each(&format!("deep, {}", rows), deep(rows));
+        measure_one(&format!("deep, {}, main_content", rows), MAIN_CONTENT, deep(rows));
+    }
+    for rows in [5_000, 10_000, 20_000] {
+        measure_one(&format!("footers, {}, main_content", rows), MAIN_CONTENT, footers(rows));
+    }
+    measure_each("tables", tables());
+    measure_each("lists", lists());
+    measure_one("classes, main_content", MAIN_CONTENT, classes());
+    measure_each("long text", long_text());
+    measure_each("4 MB of text", four_megabytes());
+    measure_one("link of 19,999 bytes, MinimalHtml", HTML_LINKS, link(19_999));
+}
+
+/// The cases of a file, by their options.
+fn real_pages(bytes: &[u8]) {
+    for options in [BASIC, OFF, HTML, HTML_LINKS_FORMS, MAIN_CONTENT] {
+        let cases = cases::unframed(bytes).into_iter().filter(|c| c[..10] == *options.as_bytes()).enumerate();
+        let mut pages: Vec<Page> = cases.map(|(i, c)| page_of(format!("page {}, {}", i + 1, options), options, c[11..].to_vec())).collect();
+        if pages.is_empty() {
+            continue;
+        }
+        measure(&format!("{} cases, {}", pages.len(), options), &mut pages);
+        measure_apart(&mut pages);
+    }
 }
 
 fn main() {
-    let reader = std::env::var("READER").unwrap_or("reader".into());
-    // "bare": without the sheet's validation, whose time is taken by itself
-    println!("{:34}{:>8}{:>10}{:>10}{:>10}{:>10}{:>8}{:>8}", "page", "rows", "bytes", "Rust", reader, "bare", "ratio", "bare");
-    println!("{:52}{:>10}{:>10}{:>10}", "", "ns a row", "ns a row", "ns a row");
-    let standing = "1011001100";
-    let main_content = "1111001100";
-    let html = "2011001100";
-    measure("small", one(standing, small()));
-    measure("handbook, 5,000", one(standing, handbook(5_000)));
-    measure("handbook, 5,000, Off", one("0011001100", handbook(5_000)));
-    measure("handbook, 5,000, MinimalHtml", one(html, handbook(5_000)));
-    measure("handbook, 5,000, main_content", one(main_content, handbook(5_000)));
-    measure("handbook, 20,000", one(standing, handbook(20_000)));
-    measure("handbook, 20,000, MinimalHtml", one(html, handbook(20_000)));
-    measure("handbook, 20,000, main_content", one(main_content, handbook(20_000)));
-    for rows in [5_000, 10_000, 20_000] {
-        measure(&format!("wide, {}", rows), one(standing, wide(rows)));
-        measure(&format!("wide, {}, main_content", rows), one(main_content, wide(rows)));
-        measure(&format!("deep, {}", rows), one(standing, deep(rows)));
-        measure(&format!("deep, {}, main_content", rows), one(main_content, deep(rows)));
-    }
-    for rows in [5_000, 10_000, 20_000] {
-        measure(&format!("footers, {}, main_content", rows), one(main_content, footers(rows)));
-    }
-    measure("tables", one(standing, tables()));
-    measure("lists", one(standing, lists()));
-    measure("lists, MinimalHtml", one(html, lists()));
-    measure("classes, main_content", one(main_content, classes()));
-    measure("long text", one(standing, long_text()));
-    measure("long text, MinimalHtml", one(html, long_text()));
-    let Some(file) = std::env::args().nth(1) else {
-        return;
-    };
-    // real pages, by their options
-    let bytes = std::fs::read(file).unwrap();
-    for options in [standing, "0011001100", html, main_content] {
-        let pages: Vec<Page> = cases::unframed(&bytes).into_iter().filter(|c| c[..10] == *options.as_bytes()).flat_map(|c| one(options, c[11..].to_vec())).collect();
-        measure(&format!("{} cases, {}", pages.len(), options), pages);
+    head();
+    made_pages();
+    if let Some(file) = std::env::args().nth(1) {
+        real_pages(&std::fs::read(file).unwrap());
     }
 }

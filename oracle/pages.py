@@ -6,11 +6,14 @@ pages.py check < answers: whether the answers to these cases have the texts that
 the Rust to a page with icons 1 (33) are passed over.
 pages.py real COUNT > cases: pages of Debian's documentation packages, read by html5lib (Debian's python3-html5lib), each under
 several option lines. Packages used: python3.11-doc apache2-doc sqlite3-doc postgresql-doc-15 python-django-doc
-developers-reference debian-reference-en debian-faq git-doc, and what else is in /usr/share/doc."""
+developers-reference debian-reference-en debian-faq git-doc, and what else is in /usr/share/doc.
+pages.py packages EACH PACKAGE .. > cases: so many pages of each of these packages, or as many as fit a sheet whole, read the same
+way, each under the option lines of bench/bench.rs; their files, one a page, to standard error."""
 import glob
 import gzip
 import os
 import re
+import subprocess
 import sys
 
 ELEMENT, TEXT, COMMENT = 1, 3, 8
@@ -293,9 +296,24 @@ def marked(rows, options):
 LINES = [STANDING, OFF, HTML, MAIN, "0111001100", "2111001100", "1011111100", "2011111100", "0011111100", "1100000000", "1111111110", "2110110000", "0001110000", "1110000010"]
 
 
-def real(count, out):
+def parsed(name):
+    """The rows of a file; none where it is long or nearly empty."""
     import html5lib
 
+    data = (gzip.open if name.endswith(".gz") else open)(name, "rb").read()
+    if len(data) > 400000:
+        return []
+    rows = rows_of(html5lib.parse(data, treebuilder="dom", namespaceHTMLElements=False))
+    return rows if len(rows) >= 5 else []
+
+
+def case_of(rows, options):
+    roots = list(candidates(rows))
+    root = roots[0] if options[1] == "1" and len(roots) == 1 else 0
+    return framed(options, sheet(marked(rows, options), root))
+
+
+def real(count, out):
     files = sorted(set(glob.glob("/usr/share/doc/**/*.html", recursive=True) + glob.glob("/usr/share/doc/**/*.html.en", recursive=True)
                        + glob.glob("/usr/share/doc/**/*.html.gz", recursive=True) + glob.glob("/usr/share/debian-reference/*.html")
                        + glob.glob("/usr/share/developers-reference/*.html")))
@@ -306,20 +324,39 @@ def real(count, out):
     for name in files[::step]:
         if done >= count:
             break
-        data = (gzip.open if name.endswith(".gz") else open)(name, "rb").read()
-        if len(data) > 400000:
+        rows = parsed(name)
+        if not rows:
             continue
-        rows = rows_of(html5lib.parse(data, treebuilder="dom", namespaceHTMLElements=False))
-        if len(rows) < 5:
-            continue
-        roots = list(candidates(rows))
         for k in range(5):
-            options = LINES[(done + 3 * k) % len(LINES)]
-            root = roots[0] if options[1] == "1" and len(roots) == 1 else 0
-            out.write(framed(options, sheet(marked(rows, options), root)))
+            out.write(case_of(rows, LINES[(done + 3 * k) % len(LINES)]))
         done += 1
         if done % 20 == 0:
             print("%d pages" % done, file=sys.stderr)
+
+
+def whole(rows):
+    """Whether there are rows, and no limit has cut them."""
+    attributes = sum(len(r[5]) for r in rows)
+    return rows and len(rows) < MOST_ROWS and attributes < MOST_ATTRIBUTES and max(r[0] for r in rows) < MOST_DEPTH
+
+
+def pages_of(package):
+    files = subprocess.run(["dpkg", "-L", package], capture_output=True, text=True).stdout.split("\n")
+    return sorted({os.path.realpath(f) for f in files if re.search(r"\.html?(\.en|\.gz)?$", f) and os.path.isfile(f)})
+
+
+def packages(each, names, out):
+    for package in names:
+        files = pages_of(package)
+        # of each of so many parts the first page that fits
+        for k in range(each):
+            for name in files[k * len(files) // each : (k + 1) * len(files) // each]:
+                rows = parsed(name)
+                if whole(rows):
+                    for options in [STANDING, OFF, HTML, "2011111100", MAIN]:
+                        out.write(case_of(rows, options))
+                    print(name, file=sys.stderr)
+                    break
 
 
 def main():
@@ -330,6 +367,8 @@ def main():
             sys.stdout.buffer.write(b"%8d\n" % len(case) + case)
     elif sys.argv[1] == "check":
         check(sys.stdin.buffer)
+    elif sys.argv[1] == "packages":
+        packages(int(sys.argv[2]), sys.argv[3:], sys.stdout.buffer)
     else:
         real(int(sys.argv[2]), sys.stdout.buffer)
 

@@ -2,13 +2,13 @@
 use mathlib.Core.Path.{_≡_, refl, sym, ap, _∙_}
 use mathlib.Core.Bool.{Bool, true, false, _&&_, _||_, not, cond, and-false}
 use mathlib.Core.List.{[], _∷_, _++_}
-use Prim.Native.Nat.{ℕ, _+_, _≤_}
+use Prim.Native.Nat.{ℕ, _+_, _≤_, _<_}
 use native.Mathlib.Omega.{arith}
 use lib.Dec.{eqb}
 use lib.ListN.{length, take, drop}
 use borrow.Author.Tests.{eqb-true, eqb-false}
 use Rattle.common.specs.Bytes.{Bytes, codes, same, isEmpty}
-use Rattle.common.proofs.Choice.{by-test, and-parts, absurd-test}
+use Rattle.common.proofs.Choice.{by-test, and-parts}
 use Rattle.options.specs.Options.{isBasic, isMinimalHtml}
 use Rattle.options.specs.declared.ExtractOptions.{ExtractOptions}
 use Rattle.options.specs.declared.Formatting.{Formatting}
@@ -23,9 +23,14 @@ use Rattle.tree.specs.Page.{nodeAt}
 use Rattle.tree.proofs.NodeLaws.{by-kind, tag-of-other}
 use Rattle.tree.proofs.PageLaws.{not-element}
 use Rattle.writer.specs.Shown.{escapedIf}
+use Rattle.serializer.specs.Progress.{readOf}
+use Rattle.html2text.specs.declared.Showing.{Showing}
 use Rattle.html2text.specs.Collect.{tagNumber, attr, isBreak, isLink, linkText, isUnshownType, fieldValue, addedByElement, added}
+use Rattle.collect.specs.Reads.{elementRead, readBy}
 use Rattle.collect.specs.Visits.{Visits, fieldText, inputText}
 use Rattle.collect.specs.declared.Visit.{Visit}
+use Rattle.collect.proofs.ReadLaws.{read-empty, read-other, read-of-element, read-of-text}
+use Rattle.collect.proofs.TestLaws.{and-less, early-a, early-textarea, early-image, early-button, early-input}
 
 -- ---- an empty text
 
@@ -70,11 +75,6 @@ cond-not : (b : Bool) (x y : Bytes) → cond (not b) x y ≡ cond b y x
 cond-not true x y = refl
 cond-not false x y = refl
 
-and-less : (a b c : Bool) → (a && b) ≡ false → (a && (b && c)) ≡ false
-and-less true true c e = absurd-test refl e
-and-less true false c e = refl
-and-less false b c e = refl
-
 module _ (o : ExtractOptions) (n : Node) (end : Bool) {t : ℕ} (t-is : t ≡ tagNumber n) where
   pub element-break : isBreak o t ≡ true → addedByElement o n end ≡ []
   unfolding addedByElement
@@ -105,6 +105,13 @@ module _ (o : ExtractOptions) (n : Node) (end : Bool) {t : ℕ} (t-is : t ≡ ta
           pub element-none : (o .«form_fields» && isInput t) ≡ false → addedByElement o n end ≡ []
           unfolding addedByElement
           element-none e = rw (← t-is, b, l, i, k, and-less (o .«form_fields») (isInput t) (not (isUnshownType (trim (attr n (codes "type"))))) e, addedByElement)
+
+  -- a name before those that add something
+  pub element-early : t < 37 → addedByElement o n end ≡ []
+  element-early h =
+      by-test (isBreak o t) element-break
+      (λ b. element-none b (rw (early-a h) (and-false (o .links))) (rw (early-image h) (and-false (o .«alt_texts»))) (rw (early-textarea h, early-button h) (and-false (o .«form_fields»)))
+      (rw (early-input h) (and-false (o .«form_fields»))))
 
   -- none of the tags
   pub element-other : t ≡ 0 → addedByElement o n end ≡ []
@@ -177,6 +184,29 @@ module _ {s : Bytes} {l : Layout} {v : Visit} (p : Visits s l v) where
       ∙ sym (escape-nothing escapes)
       ∙ ap (escapedIf escapes) (sym (text-is ∙ no-value k)))
       (λ k. added-of-text o visited (v .end) current k ∙ rw (text-is, e-is))
+      (λ k. absurd (p .shown k))
+
+  pub read-value : {text : Bytes} {escapes : Bool} (o : ExtractOptions) (w : Showing) (current : ℕ) → v .tag ≡ 0 → text ≡ range s l (v .«value_at») (v .«value_len»)
+      → escapes ≡ (isMinimalHtml (o .formatting) && isA current) → readBy o w visited (v .end) current ≡ readOf w escapes text
+  read-value {text} {escapes} o w current z t-is e-is =
+      let text-is = t-is ∙ value-is in
+      by-kind (visited .kind)
+      (λ k.
+      read-of-element o w visited (v .end) current k
+      ∙ read-other o w visited (v .end) (p .tag-is) z
+      ∙ sym (read-empty w escapes text (ap length (text-is ∙ no-value k))))
+      (λ k. read-of-text o w visited (v .end) current k e-is ∙ rw text-is)
+      (λ k. absurd (p .shown k))
+
+  pub read-no-value : (o : ExtractOptions) (w : Showing) (current : ℕ) → v .tag ≡ 0 → v .«value_len» ≡ 0 → readBy o w visited (v .end) current ≡ 0
+  read-no-value o w current z n =
+      read-value {text = []} o w current z (ap (λ (k : ℕ). take k (drop (poolStart l + v .«value_at») s)) (sym n)) refl ∙ read-empty w (isMinimalHtml (o .formatting) && isA current) [] refl
+
+  pub read-element : (o : ExtractOptions) (w : Showing) (current : ℕ) → (v .tag ≡ 0 → ⊥) → readBy o w visited (v .end) current ≡ elementRead o w visited (v .end)
+  read-element o w current z =
+      by-kind (visited .kind)
+      (λ k. read-of-element o w visited (v .end) current k)
+      (λ k. absurd (z (p .tag-is ∙ other-tag visited (λ e. text-no-element (sym k ∙ e)))))
       (λ k. absurd (p .shown k))
 
   pub added-none : (o : ExtractOptions) (current : ℕ) → v .tag ≡ 0 → v .«value_len» ≡ 0 → added o visited (v .end) current ≡ []

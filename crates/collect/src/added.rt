@@ -7,14 +7,14 @@ use crate::tests::is_link;
 use options::ExtractOptions;
 use options::Formatting;
 use serializer::Progress;
+use serializer::texts::say;
 use serializer::texts::show;
-use serializer::texts::show_escaped;
 use sheet::line::Layout;
 use sheet::read::part;
 use sheet::read::row_at;
 use tree::attributes::AttributeAt;
 use tree::attributes::find;
-ghost use mathlib.Core.Bool.{_&&_, _||_, cond};
+ghost use mathlib.Core.Bool.{_&&_, _||_, cond, true};
 ghost use mathlib.Core.List.{[], _++_};
 ghost use mathlib.Core.Path.{_≡_};
 ghost use Rattle.common.specs.Bytes.{codes};
@@ -24,7 +24,8 @@ ghost use Rattle.tags.specs.Tags.{isA, isButton, isImage, isInput, isTextarea};
 ghost use Rattle.text.specs.Text.{escape, trim};
 ghost use Rattle.tree.specs.Page.{nodeAt};
 ghost use Rattle.writer.specs.Shown.{escapedIf};
-ghost use Rattle.serializer.specs.Progress.{ShowReady, Shows};
+ghost use Rattle.serializer.specs.Progress.{ShowReady, Shows, readOf};
+ghost use Rattle.collect.specs.Reads.{elementRead, fieldRead, inputRead, linkRead, readBy};
 ghost use Rattle.collect.specs.Visits.{Visits, fieldText, inputText};
 
 // `attr(node, name)`
@@ -39,25 +40,6 @@ fn attribute_value<'a, 'b>(s: &'a [u8], l: Layout, v: Visit, name: &'b [u8]) -> 
     }
 }
 
-// A piece of the text, escaped where asked.
-fn put(
-    o: ExtractOptions,
-    p: Progress,
-    piece: &[u8],
-    escapes: bool,
-    out: &mut [u8],
-    write: bool,
-) -> Progress
-    requires { ⌜ ShowReady (o .formatting) (o .«list_bullets») write p (now out) (escapedIf escapes (now piece)) ⌝ }
-    ensures { λ r. ⌜ Shows (o .formatting) (o .«list_bullets») write p (now (out .entry)) r (now (out .exit)) (escapedIf escapes (now (piece .entry))) ⌝ }
-{
-    let f = o.formatting;
-    if escapes {
-        return show_escaped(f, o.list_bullets, p, piece, out, write);
-    }
-    show(f, o.list_bullets, p, piece, out, write)
-}
-
 // A text between two others, escaped where asked.
 fn put_between(
     o: ExtractOptions,
@@ -69,15 +51,16 @@ fn put_between(
     out: &mut [u8],
     write: bool,
 ) -> Progress
-    requires { ⌜ ShowReady (o .formatting) (o .«list_bullets») write p (now out) (now before ++ (escapedIf escapes (now text) ++ now after)) ⌝ }
-    ensures { λ r. ⌜ Shows (o .formatting) (o .«list_bullets») write p (now (out .entry)) r (now (out .exit)) (now (before .entry) ++ (escapedIf escapes (now (text .entry)) ++ now (after .entry))) ⌝ }
+    requires { ⌜ ShowReady (o .formatting) (o .«list_bullets») write p (now out) (now before ++ (escapedIf escapes (now text) ++ now after)) (readOf (p .showing) escapes (now text)) ⌝ }
+    ensures { λ r. ⌜ Shows (o .formatting) (o .«list_bullets») write p (now (out .entry)) r (now (out .exit)) (now (before .entry) ++ (escapedIf escapes (now (text .entry)) ++ now (after .entry))) (readOf (p .showing) escapes (now (text .entry))) ⌝ }
 {
-    let a = put(o, p, before, false, out, write);
-    let b = put(o, a, text, escapes, out, write);
-    put(o, b, after, false, out, write)
+    let f = o.formatting;
+    let a = say(f, o.list_bullets, p, before, out, write);
+    let b = show(f, o.list_bullets, a, text, escapes, out, write);
+    say(f, o.list_bullets, b, after, out, write)
 }
 
-// A link's address, trimmed, at its end.
+// A link's address, trimmed, at its end; nothing is escaped there.
 fn put_address(
     o: ExtractOptions,
     p: Progress,
@@ -86,11 +69,14 @@ fn put_address(
     out: &mut [u8],
     write: bool,
 ) -> Progress
-    requires { ⌜ ShowReady (o .formatting) (o .«list_bullets») write p (now out) (cond end (codes " (" ++ (now href ++ codes ")")) []) ⌝ }
-    ensures { λ r. ⌜ Shows (o .formatting) (o .«list_bullets») write p (now (out .entry)) r (now (out .exit)) (cond end (codes " (" ++ (now (href .entry) ++ codes ")")) []) ⌝ }
+    requires { ⌜ ShowReady (o .formatting) (o .«list_bullets») write p (now out) (cond end (codes " (" ++ (now href ++ codes ")")) []) 0 ⌝ }
+    ensures { λ r. ⌜ Shows (o .formatting) (o .«list_bullets») write p (now (out .entry)) r (now (out .exit)) (cond end (codes " (" ++ (now (href .entry) ++ codes ")")) []) 0 ⌝ }
 {
     if end {
-        return put_between(o, p, b" (", href, false, b")", out, write);
+        let f = o.formatting;
+        let a = say(f, o.list_bullets, p, b" (", out, write);
+        let b = say(f, o.list_bullets, a, href, out, write);
+        return say(f, o.list_bullets, b, b")", out, write);
     }
     p
 }
@@ -104,11 +90,12 @@ fn put_link_tag(
     out: &mut [u8],
     write: bool,
 ) -> Progress
-    requires { ⌜ ShowReady (o .formatting) (o .«list_bullets») write p (now out) (cond end (codes "</a>") (codes "<a href=\"" ++ (escape (now href) ++ codes "\">"))) ⌝ }
-    ensures { λ r. ⌜ Shows (o .formatting) (o .«list_bullets») write p (now (out .entry)) r (now (out .exit)) (cond end (codes "</a>") (codes "<a href=\"" ++ (escape (now (href .entry)) ++ codes "\">"))) ⌝ }
+    requires { ⌜ ShowReady (o .formatting) (o .«list_bullets») write p (now out) (cond end (codes "</a>") (codes "<a href=\"" ++ (escape (now href) ++ codes "\">"))) (cond end 0 (readOf (p .showing) true (now href))) ⌝ }
+    ensures { λ r. ⌜ Shows (o .formatting) (o .«list_bullets») write p (now (out .entry)) r (now (out .exit)) (cond end (codes "</a>") (codes "<a href=\"" ++ (escape (now (href .entry)) ++ codes "\">"))) (cond end 0 (readOf (p .showing) true (now (href .entry)))) ⌝ }
 {
     if end {
-        return put(o, p, b"</a>", false, out, write);
+        let f = o.formatting;
+        return say(f, o.list_bullets, p, b"</a>", out, write);
     }
     put_between(o, p, b"<a href=\"", href, true, b"\">", out, write)
 }
@@ -123,8 +110,8 @@ fn put_link(
     write: bool,
 ) -> Progress
     requires { ⌜ Visits (now s) l v ⌝ }
-    requires { ⌜ ShowReady (o .formatting) (o .«list_bullets») write p (now out) (linkText (o .formatting) (v .end) (attr (nodeAt (now s) l (v .row)) (codes "href"))) ⌝ }
-    ensures { λ r. ⌜ Shows (o .formatting) (o .«list_bullets») write p (now (out .entry)) r (now (out .exit)) (linkText (o .formatting) (v .end) (attr (nodeAt (now (s .entry)) l (v .row)) (codes "href"))) ⌝ }
+    requires { ⌜ ShowReady (o .formatting) (o .«list_bullets») write p (now out) (linkText (o .formatting) (v .end) (attr (nodeAt (now s) l (v .row)) (codes "href"))) (linkRead (o .formatting) (v .end) (p .showing) (attr (nodeAt (now s) l (v .row)) (codes "href"))) ⌝ }
+    ensures { λ r. ⌜ Shows (o .formatting) (o .«list_bullets») write p (now (out .entry)) r (now (out .exit)) (linkText (o .formatting) (v .end) (attr (nodeAt (now (s .entry)) l (v .row)) (codes "href"))) (linkRead (o .formatting) (v .end) (p .showing) (attr (nodeAt (now (s .entry)) l (v .row)) (codes "href"))) ⌝ }
 {
     let href = text::trim(attribute_value(s, l, v, b"href"));
     let f = o.formatting;
@@ -136,13 +123,14 @@ fn put_link(
 }
 
 fn put_bracket(o: ExtractOptions, p: Progress, end: bool, out: &mut [u8], write: bool) -> Progress
-    requires { ⌜ ShowReady (o .formatting) (o .«list_bullets») write p (now out) (cond end (codes " ] ") (codes "[ ")) ⌝ }
-    ensures { λ r. ⌜ Shows (o .formatting) (o .«list_bullets») write p (now (out .entry)) r (now (out .exit)) (cond end (codes " ] ") (codes "[ ")) ⌝ }
+    requires { ⌜ ShowReady (o .formatting) (o .«list_bullets») write p (now out) (cond end (codes " ] ") (codes "[ ")) 0 ⌝ }
+    ensures { λ r. ⌜ Shows (o .formatting) (o .«list_bullets») write p (now (out .entry)) r (now (out .exit)) (cond end (codes " ] ") (codes "[ ")) 0 ⌝ }
 {
+    let f = o.formatting;
     if end {
-        return put(o, p, b" ] ", false, out, write);
+        return say(f, o.list_bullets, p, b" ] ", out, write);
     }
-    put(o, p, b"[ ", false, out, write)
+    say(f, o.list_bullets, p, b"[ ", out, write)
 }
 
 // "the six types named in `collect`"
@@ -176,8 +164,8 @@ fn put_field(
     write: bool,
 ) -> Progress
     requires { ⌜ Visits (now s) l v ⌝ }
-    requires { ⌜ ShowReady (o .formatting) (o .«list_bullets») write p (now out) (fieldText (nodeAt (now s) l (v .row))) ⌝ }
-    ensures { λ r. ⌜ Shows (o .formatting) (o .«list_bullets») write p (now (out .entry)) r (now (out .exit)) (fieldText (nodeAt (now (s .entry)) l (v .row))) ⌝ }
+    requires { ⌜ ShowReady (o .formatting) (o .«list_bullets») write p (now out) (fieldText (nodeAt (now s) l (v .row))) (fieldRead (p .showing) (nodeAt (now s) l (v .row))) ⌝ }
+    ensures { λ r. ⌜ Shows (o .formatting) (o .«list_bullets») write p (now (out .entry)) r (now (out .exit)) (fieldText (nodeAt (now (s .entry)) l (v .row))) (fieldRead (p .showing) (nodeAt (now (s .entry)) l (v .row))) ⌝ }
 {
     let value = text::trim(field_value(s, l, v));
     if value.len() == 0 {
@@ -197,8 +185,8 @@ fn put_input(
     write: bool,
 ) -> Progress
     requires { ⌜ Visits (now s) l v ⌝ }
-    requires { ⌜ ShowReady (o .formatting) (o .«list_bullets») write p (now out) (inputText (nodeAt (now s) l (v .row))) ⌝ }
-    ensures { λ r. ⌜ Shows (o .formatting) (o .«list_bullets») write p (now (out .entry)) r (now (out .exit)) (inputText (nodeAt (now (s .entry)) l (v .row))) ⌝ }
+    requires { ⌜ ShowReady (o .formatting) (o .«list_bullets») write p (now out) (inputText (nodeAt (now s) l (v .row))) (inputRead (p .showing) (nodeAt (now s) l (v .row))) ⌝ }
+    ensures { λ r. ⌜ Shows (o .formatting) (o .«list_bullets») write p (now (out .entry)) r (now (out .exit)) (inputText (nodeAt (now (s .entry)) l (v .row))) (inputRead (p .showing) (nodeAt (now (s .entry)) l (v .row))) ⌝ }
 {
     if is_unshown(s, l, v) {
         return p;
@@ -235,8 +223,8 @@ fn add_element(
     write: bool,
 ) -> Progress
     requires { ⌜ Visits (now s) l v ⌝ }
-    requires { ⌜ ShowReady (o .formatting) (o .«list_bullets») write p (now out) (addedByElement o (nodeAt (now s) l (v .row)) (v .end)) ⌝ }
-    ensures { λ r. ⌜ Shows (o .formatting) (o .«list_bullets») write p (now (out .entry)) r (now (out .exit)) (addedByElement o (nodeAt (now (s .entry)) l (v .row)) (v .end)) ⌝ }
+    requires { ⌜ ShowReady (o .formatting) (o .«list_bullets») write p (now out) (addedByElement o (nodeAt (now s) l (v .row)) (v .end)) (elementRead o (p .showing) (nodeAt (now s) l (v .row)) (v .end)) ⌝ }
+    ensures { λ r. ⌜ Shows (o .formatting) (o .«list_bullets») write p (now (out .entry)) r (now (out .exit)) (addedByElement o (nodeAt (now (s .entry)) l (v .row)) (v .end)) (elementRead o (p .showing) (nodeAt (now (s .entry)) l (v .row)) (v .end)) ⌝ }
 {
     if is_break(o, v.tag) {
         return p;
@@ -245,7 +233,9 @@ fn add_element(
         return put_link(o, s, l, v, p, out, write);
     }
     if shows_alt(o, v.tag) {
-        return put(o, p, attribute_value(s, l, v, b"alt"), false, out, write);
+        let f = o.formatting;
+        let alt = attribute_value(s, l, v, b"alt");
+        return show(f, o.list_bullets, p, alt, false, out, write);
     }
     if shows_brackets(o, v.tag) {
         return put_bracket(o, p, v.end, out, write);
@@ -274,21 +264,26 @@ fn add_text(
     write: bool,
 ) -> Progress
     requires { ⌜ Visits (now s) l v × (v .tag ≡ 0) ⌝ }
-    requires { ⌜ ShowReady (o .formatting) (o .«list_bullets») write p (now out) (added o (nodeAt (now s) l (v .row)) (v .end) current) ⌝ }
-    ensures { λ r. ⌜ Shows (o .formatting) (o .«list_bullets») write p (now (out .entry)) r (now (out .exit)) (added o (nodeAt (now (s .entry)) l (v .row)) (v .end) current) ⌝ }
+    requires { ⌜ ShowReady (o .formatting) (o .«list_bullets») write p (now out) (added o (nodeAt (now s) l (v .row)) (v .end) current) (readBy o (p .showing) (nodeAt (now s) l (v .row)) (v .end) current) ⌝ }
+    ensures { λ r. ⌜ Shows (o .formatting) (o .«list_bullets») write p (now (out .entry)) r (now (out .exit)) (added o (nodeAt (now (s .entry)) l (v .row)) (v .end) current) (readBy o (p .showing) (nodeAt (now (s .entry)) l (v .row)) (v .end) current) ⌝ }
 {
     if v.value_len == 0 {
         return p;
     }
     let f = o.formatting;
     let value = part(s, l, v.value_at, v.value_len);
-    if is_escaped(f, current) {
-        return show_escaped(f, o.list_bullets, p, value, out, write);
-    }
-    show(f, o.list_bullets, p, value, out, write)
+    show(
+        f,
+        o.list_bullets,
+        p,
+        value,
+        is_escaped(f, current),
+        out,
+        write,
+    )
 }
 
-// What a visit adds to the text of the current entry, whose tag is current.
+// What a visit adds to the text of the current entry, whose tag is current. The names before A add nothing.
 pub fn add(
     o: ExtractOptions,
     s: &[u8],
@@ -300,11 +295,14 @@ pub fn add(
     write: bool,
 ) -> Progress
     requires { ⌜ Visits (now s) l v ⌝ }
-    requires { ⌜ ShowReady (o .formatting) (o .«list_bullets») write p (now out) (added o (nodeAt (now s) l (v .row)) (v .end) current) ⌝ }
-    ensures { λ r. ⌜ Shows (o .formatting) (o .«list_bullets») write p (now (out .entry)) r (now (out .exit)) (added o (nodeAt (now (s .entry)) l (v .row)) (v .end) current) ⌝ }
+    requires { ⌜ ShowReady (o .formatting) (o .«list_bullets») write p (now out) (added o (nodeAt (now s) l (v .row)) (v .end) current) (readBy o (p .showing) (nodeAt (now s) l (v .row)) (v .end) current) ⌝ }
+    ensures { λ r. ⌜ Shows (o .formatting) (o .«list_bullets») write p (now (out .entry)) r (now (out .exit)) (added o (nodeAt (now (s .entry)) l (v .row)) (v .end) current) (readBy o (p .showing) (nodeAt (now (s .entry)) l (v .row)) (v .end) current) ⌝ }
 {
     if v.tag == tags::OTHER {
         return add_text(o, s, l, v, current, p, out, write);
+    }
+    if v.tag < tags::A {
+        return p;
     }
     add_element(o, s, l, v, p, out, write)
 }

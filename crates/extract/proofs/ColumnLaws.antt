@@ -1,7 +1,7 @@
 -- From the columns of `take_rows` and the rows that are left out to what the passes ask for, and to the page's extraction.
 use mathlib.Core.Path.{_≡_, sym, ap, _∙_}
 use mathlib.Core.Bool.{Bool, true, false}
-use mathlib.Core.List.{List}
+use mathlib.Core.List.{List, []}
 use Prim.Native.Nat.{ℕ, _≤_}
 use native.Mathlib.Omega.{arith}
 use lib.ListN.{length, take}
@@ -14,17 +14,18 @@ use Rattle.sheet.proofs.LayoutLaws.{depths-from-length}
 use Rattle.tree.specs.Page.{nodeAt, pageOf}
 use Rattle.filters.specs.Filters.{filtered}
 use Rattle.writer.specs.Out.{greater}
+use Rattle.html2text.specs.Escapes.{bytesEscaped, escapedLength, readIn}
 use Rattle.html2text.specs.Extract.{hidden, longestNames}
 use Rattle.html2text.specs.Fused.{closed}
 use Rattle.html2text.specs.declared.Extraction.{Extraction}
 use Rattle.walk.specs.Rows.{Columns, RowsRead}
 use Rattle.walk.proofs.RowLaws.{column-is}
-use Rattle.visits.specs.Visiting.{Noted, Walked, passesOf, runOf}
+use Rattle.visits.specs.Visiting.{Noted, Walked, eventsIn, passesOf, runOf}
 use Rattle.visits.proofs.NotedLaws.{noted}
 use Rattle.visits.proofs.WalkedLaws.{events-of-passes, visits-of-passes, walked}
 use Rattle.left_out.specs.LeftOut.{LeftOutRows}
 use Rattle.extract.specs.Concluding.{Concludes, namesNeed, Extracts}
-use Rattle.extract.proofs.ExtractLaws.{extracts}
+use Rattle.extract.proofs.ExtractLaws.{extracts, reads}
 
 module _ {s : Bytes} {l : Layout} {ds ts fs vs ls : List ℕ} {bs : List Bool} (room : Columns (l .nodes) ds ts fs vs ls bs) (read : RowsRead s l (l .nodes) ds ts fs vs ls bs) where
   pub visits-noted : Accepted s l → Noted s l (take (l .nodes) ds) ts fs vs ls
@@ -47,9 +48,11 @@ module _ (s : Bytes) (l : Layout) (o : ExtractOptions) (left : List Bool) (agree
   pub rows-walked : Accepted s l → l .nodes ≤ length left → Walked s l o left
   rows-walked accepted long = walked s l left (hidden (filtered (pageOf s l) o) (pageOf s l) o) agree o accepted long
 
-  pub rows-extract : {names : ℕ} {out work out′ work′ : Bytes} {r : Extraction} → names ≡ namesNeed (pageOf s l) o
+  pub rows-extract : {names : ℕ} {out work out′ work′ : Bytes} {r : Extraction} {n : ℕ} → names ≡ namesNeed (pageOf s l) o
       → Concludes (greater (runOf s l o left .note .peak) names) (length (passesOf s l left)) (closed o (runOf s l o left)) out work r out′ work′
-      → Extracts (filtered (pageOf s l) o) (pageOf s l) o out work r out′ work′
-  rows-extract n k =
+      → n ≡ readIn r (bytesEscaped o [] (eventsIn s l (passesOf s l left)))
+      → Extracts (filtered (pageOf s l) o) (pageOf s l) o out work r out′ work′ × (n ≡ readIn r (escapedLength (filtered (pageOf s l) o) (pageOf s l) o))
+  rows-extract {r = r} m k e =
       let h = hidden (filtered (pageOf s l) o) (pageOf s l) o in
-      extracts s l o (filtered (pageOf s l) o) left (events-of-passes s l left h agree) (visits-of-passes s l left h agree) n k
+      let same = events-of-passes s l left h agree in
+      (extracts s l o (filtered (pageOf s l) o) left same (visits-of-passes s l left h agree) m k, reads s l o (filtered (pageOf s l) o) left same r e)

@@ -10,6 +10,7 @@ use Rattle.sheet.specs.declared.line.Layout.{Layout}
 use Rattle.tree.specs.Page.{nodeAt, pageOf}
 use Rattle.writer.specs.Out.{greater}
 use Rattle.html2text.specs.Collect.{Event}
+use Rattle.html2text.specs.Escapes.{bytesEscaped, escapedLength, readIn}
 use Rattle.html2text.specs.Extract.{Run, serialized, longestText, hidden, entries, passes, workNeed, extraction, outAfter, workAfter}
 use Rattle.html2text.specs.Fused.{idle, closed, fedAll}
 use Rattle.html2text.specs.Walk.{events, visits, treeOf}
@@ -38,3 +39,7 @@ module _ (s : Bytes) (l : Layout) (o : ExtractOptions) (filtered : ℕ → Bool)
         (subst (λ (m : ℕ). Concludes (workNeed filtered (pageOf s l) o) m (closed o (runOf s l o left)) out work r out′ work′) v
         (subst (λ (m : ℕ). Concludes m (length (passesOf s l left)) (closed o (runOf s l o left)) out work r out′ work′) (need-is n) k)) in
         record { answer = at .answer; out-is = at .out-is; work-is = at .work-is }
+
+    pub reads : {n : ℕ} (r : Extraction) → n ≡ readIn r (bytesEscaped o [] (eventsIn s l (passesOf s l left))) → n ≡ readIn r (escapedLength filtered (pageOf s l) o)
+    unfolding escapedLength
+    reads r e = e ∙ ap (λ (es : List Event). readIn r (bytesEscaped o [] es)) same

@@ -1,5 +1,6 @@
 // The extraction of a sheet whose header is right: its rows are judged and read once into columns, the rows that are left out are decided, and
 // the passes follow.
+use crate::Counted;
 use crate::passes::extract_rows;
 use html2text::Extraction;
 use html2text::MOST_LEVELS;
@@ -17,6 +18,7 @@ ghost use mathlib.Core.Path.{_≡_};
 ghost use Prim.Native.Nat.{_≤_, _<_};
 ghost use lib.ListN.{length};
 ghost use Rattle.filters.specs.Filters.{filtered};
+ghost use Rattle.html2text.specs.Escapes.{escapedLength, readIn};
 ghost use Rattle.html2text.specs.Extract.{mostLevels, mostOpenRows};
 ghost use Rattle.sheet.specs.Accepted.{Accepted};
 ghost use Rattle.sheet.specs.Layout.{mostDepth};
@@ -55,11 +57,12 @@ fn extract_columns(
     cells: &mut [bool],
     out: &mut [u8],
     work: &mut [u8],
-) -> Extraction
+) -> Counted
     requires { ⌜ Accepted (now s) l × Columns (l .nodes) (now depths) (now tags) (now attributes) (now values) (now lengths) (now left) ⌝ }
     requires { ⌜ RowsRead (now s) l (l .nodes) (now depths) (now tags) (now attributes) (now values) (now lengths) (now left) ⌝ }
     requires { ⌜ (mostDepth < length (now stack)) × (length (now numbering) ≡ mostLevels) × (length (now cells) ≡ mostOpenRows) ⌝ }
-    ensures { λ r. ⌜ Extracts (filtered (pageOf (now (s .entry)) l) o) (pageOf (now (s .entry)) l) o (now (out .entry)) (now (work .entry)) r (now (out .exit)) (now (work .exit)) ⌝ }
+    ensures { λ r. ⌜ Extracts (filtered (pageOf (now (s .entry)) l) o) (pageOf (now (s .entry)) l) o (now (out .entry)) (now (work .entry)) (r .extraction) (now (out .exit)) (now (work .exit)) ⌝ }
+    ensures counted { λ r. ⌜ r .read ≡ readIn (r .extraction) (escapedLength (filtered (pageOf (now (s .entry)) l) o) (pageOf (now (s .entry)) l) o) ⌝ }
 {
     let nodes = l.nodes;
     let column = &depths[..nodes];
@@ -92,9 +95,10 @@ fn extract_small(
     o: ExtractOptions,
     out: &mut [u8],
     work: &mut [u8],
-) -> Extraction
+) -> Counted
     requires { ⌜ Sized (now s) l × Whole (now s) l whole × (l .nodes ≤ fewRows) ⌝ }
-    ensures { λ r. ⌜ Answers (now (s .entry)) l o (now (out .entry)) (now (work .entry)) r (now (out .exit)) (now (work .exit)) ⌝ }
+    ensures { λ r. ⌜ Answers (now (s .entry)) l o (now (out .entry)) (now (work .entry)) (r .extraction) (now (out .exit)) (now (work .exit)) ⌝ }
+    ensures counted { λ r. ⌜ r .read ≡ readIn (r .extraction) (escapedLength (filtered (pageOf (now (s .entry)) l) o) (pageOf (now (s .entry)) l) o) ⌝ }
 {
     let mut depths = [0u16; FEW_ROWS];
     let mut tags = [0u8; FEW_ROWS];
@@ -116,7 +120,10 @@ fn extract_small(
         &mut lengths,
         &mut left,
     ) {
-        return Extraction::Refused(judge(s, l, whole));
+        return Counted {
+            extraction: Extraction::Refused(judge(s, l, whole)),
+            read: 0,
+        };
     }
     extract_columns(
         s,
@@ -144,9 +151,10 @@ fn extract_large(
     o: ExtractOptions,
     out: &mut [u8],
     work: &mut [u8],
-) -> Extraction
+) -> Counted
     requires { ⌜ Sized (now s) l × Whole (now s) l whole ⌝ }
-    ensures { λ r. ⌜ Answers (now (s .entry)) l o (now (out .entry)) (now (work .entry)) r (now (out .exit)) (now (work .exit)) ⌝ }
+    ensures { λ r. ⌜ Answers (now (s .entry)) l o (now (out .entry)) (now (work .entry)) (r .extraction) (now (out .exit)) (now (work .exit)) ⌝ }
+    ensures counted { λ r. ⌜ r .read ≡ readIn (r .extraction) (escapedLength (filtered (pageOf (now (s .entry)) l) o) (pageOf (now (s .entry)) l) o) ⌝ }
 {
     let mut depths = [0u16; MOST_ROWS];
     let mut tags = [0u8; MOST_ROWS];
@@ -168,7 +176,10 @@ fn extract_large(
         &mut lengths,
         &mut left,
     ) {
-        return Extraction::Refused(judge(s, l, whole));
+        return Counted {
+            extraction: Extraction::Refused(judge(s, l, whole)),
+            read: 0,
+        };
     }
     extract_columns(
         s,
@@ -195,9 +206,10 @@ pub fn extract_sized(
     o: ExtractOptions,
     out: &mut [u8],
     work: &mut [u8],
-) -> Extraction
+) -> Counted
     requires { ⌜ Sized (now s) l ⌝ }
-    ensures { λ r. ⌜ Answers (now (s .entry)) l o (now (out .entry)) (now (work .entry)) r (now (out .exit)) (now (work .exit)) ⌝ }
+    ensures { λ r. ⌜ Answers (now (s .entry)) l o (now (out .entry)) (now (work .entry)) (r .extraction) (now (out .exit)) (now (work .exit)) ⌝ }
+    ensures counted { λ r. ⌜ r .read ≡ readIn (r .extraction) (escapedLength (filtered (pageOf (now (s .entry)) l) o) (pageOf (now (s .entry)) l) o) ⌝ }
 {
     let whole = is_whole(s, l);
     if l.nodes <= FEW_ROWS {

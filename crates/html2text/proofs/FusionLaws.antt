@@ -15,7 +15,7 @@ use Rattle.html2text.specs.Fused.{Fused, idle, closed, opened, grown, fe
 
 module _ (o : ExtractOptions) where
   -- the entries so far, as the fused run has them
-  view : List Entry → Fused
+  unfoldable pub view : List Entry → Fused
   view [] = idle
   view (e ∷ before) =
       record { any = true; row = e .row; node = e .node; note = record { text = e .text; peak = longestText (e ∷ before) }; run = serialized o before }
@@ -43,7 +43,7 @@ module _ (o : ExtractOptions) where
       note : _≡_ {A = Out} (record { text = n .text ++ s; peak = greater (longestText before) (length (n .text ++ s)) }) (pushAll s O)
       note = λ i. record { text = sym (push-all-text s O) i; peak = peak i }
 
-  fused-one : (nodes : List Entry) (e : Event) → view (collect o nodes e) ≡ fed o e (view nodes)
+  pub fused-one : (nodes : List Entry) (e : Event) → view (collect o nodes e) ≡ fed o e (view nodes)
   unfolding view collect fed opened grown closed serialized longestText
   fused-one [] e = amended-view e (pushed o [] e) [] 0 (greater-max 0 0)
   fused-one (n ∷ before) e = go (pushes o (n ∷ before) e)

@@ -5,6 +5,7 @@ pub mod AnswerBounds
 pub mod BlankRuns
 pub mod BoundLaws
 pub mod CollectLaws
+pub mod CountLaws
 pub mod Demand3Laws
 pub mod DemandLaws
 pub mod EachLaws
@@ -12,6 +13,7 @@ pub mod EncodedBytes
 pub mod EncodedLaws
 pub mod EncodedPage
 pub mod EncodedSteps
+pub mod EscapesLaws
 pub mod ExampleLaws
 pub mod FurtherPieces
 pub mod FusionLaws

@@ -82,25 +82,33 @@ shown-nothing squeeze space escapes s e = ap (escapedIf escapes) (empty-nil (col
 abbrev showing : Bool → Bool → Bool → Bool → Bool → Showing
 showing dropped squeeze escapes empty space = record { dropped = dropped; squeeze = squeeze; escapes = escapes; empty = empty; space = space }
 
-after-empty : (w : Showing) (piece : Bytes) → showingAfter w piece .empty ≡ (w .empty && nothingLeft (w .squeeze) (w .space) piece)
-unfolding showingAfter
-after-empty w piece = ap (λ (b : Bool). w .empty && b) (Bool·not-not (nothingLeft (w .squeeze) (w .space) piece))
+-- of an entry that is not dropped
+module _ (squeeze escapes empty space : Bool) (piece : Bytes) where
+  after-empty : showingAfter (showing false squeeze escapes empty space) piece .empty ≡ (empty && nothingLeft squeeze space piece)
+  unfolding showingAfter
+  after-empty = ap (λ (b : Bool). empty && b) (Bool·not-not (nothingLeft squeeze space piece))
 
-after-by : (w : Showing) (piece : Bytes) {empty space : Bool} → (w .empty && nothingLeft (w .squeeze) (w .space) piece) ≡ empty → spaceAfter isSpace (w .space) piece ≡ space
-    → showingAfter w piece ≡ showing (w .dropped) (w .squeeze) (w .escapes) empty space
-unfolding showingAfter
-after-by w piece e h = λ i. showing (w .dropped) (w .squeeze) (w .escapes) ((after-empty w piece ∙ e) i) (h i)
+  after-by : {empty′ space′ : Bool} → (empty && nothingLeft squeeze space piece) ≡ empty′ → spaceAfter isSpace space piece ≡ space′
+      → showingAfter (showing false squeeze escapes empty space) piece ≡ showing false squeeze escapes empty′ space′
+  unfolding showingAfter
+  after-by e h = λ i. showing false squeeze escapes ((after-empty ∙ e) i) (h i)
 
-showing-none : (w : Showing) → showingAfter w [] ≡ w
-showing-none w = after-by w [] (ap (λ (b : Bool). w .empty && b) (left-none (w .squeeze) (w .space)) ∙ and-true (w .empty)) refl
-
-showing-append : (w : Showing) (a b : Bytes) → showingAfter w (a ++ b) ≡ showingAfter (showingAfter w a) b
+showing-none : (dropped squeeze escapes empty space : Bool) → let w = showing dropped squeeze escapes empty space in showingAfter w [] ≡ w
 unfolding showingAfter
-showing-append w a b =
-    let left = nothingLeft (w .squeeze) (w .space) a in
-    let left′ = nothingLeft (w .squeeze) (spaceAfter isSpace (w .space) a) b in
-    after-by w (a ++ b) (ap (λ (x : Bool). w .empty && x) (left-append (w .squeeze) (w .space) a b) ∙ sym (and-assoc (w .empty) left left′)) (space-append isSpace (w .space) a b)
-    ∙ sym (after-by (showingAfter w a) b (ap (λ (x : Bool). x && left′) (after-empty w a)) refl)
+showing-none true squeeze escapes empty space = refl
+showing-none false squeeze escapes empty space =
+    after-by squeeze escapes empty space [] (ap (λ (b : Bool). empty && b) (left-none squeeze space) ∙ and-true empty) refl
+
+showing-append : (dropped squeeze escapes empty space : Bool) (a b : Bytes) → let w = showing dropped squeeze escapes empty space in
+    showingAfter w (a ++ b) ≡ showingAfter (showingAfter w a) b
+unfolding showingAfter
+showing-append true squeeze escapes empty space a b = refl
+showing-append false squeeze escapes empty space a b =
+    let w = showingAfter (showing false squeeze escapes empty space) a in
+    let left = nothingLeft squeeze space a in
+    let left′ = nothingLeft squeeze (w .space) b in
+    after-by squeeze escapes empty space (a ++ b) (ap (λ (x : Bool). empty && x) (left-append squeeze space a b) ∙ sym (and-assoc empty left left′)) (space-append isSpace space a b)
+    ∙ sym (after-by squeeze escapes (w .empty) (w .space) b (ap (λ (x : Bool). x && left′) (after-empty squeeze escapes empty space a)) refl)
 
 module _ (f : Formatting) (bullets : Bool) where
   pub piece-silent : (w : Showing) (piece : Bytes) (S : State) → isSilent w piece ≡ true → showPiece f bullets w piece S ≡ S
@@ -202,9 +210,9 @@ shown-in-pieces f bullets =
     record {
       step-is = step-in-pieces f bullets;
       none = piece-none f bullets;
-      after-none = showing-none;
+      after-none = λ w. showing-none (w .dropped) (w .squeeze) (w .escapes) (w .empty) (w .space);
       append = λ w a b S. piece-append f bullets (w .dropped) (w .squeeze) (w .escapes) (w .empty) (w .space) a b S;
-      after-append = showing-append;
+      after-append = λ w a b. showing-append (w .dropped) (w .squeeze) (w .escapes) (w .empty) (w .space) a b;
     }
 
 -- ---- the greatest length never falls

@@ -1,9 +1,11 @@
 pub mod Alike
 pub mod Bounds
 pub mod Collect
+pub mod Counts
 pub mod Demand
 pub mod Demand3
 pub mod Encoded
+pub mod Escapes
 pub mod Examples
 pub mod Extract
 pub mod Fused

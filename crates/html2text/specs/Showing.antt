@@ -2,7 +2,7 @@
 -- pushed, and what a piece shows depends on whether anything was shown before and on the last byte.
 use mathlib.Core.Path.{_≡_}
 use mathlib.Core.Bool.{Bool, true, false, _&&_, _||_, not, cond}
-use mathlib.Core.List.{List, [], _∷_, _++_}
+use mathlib.Core.List.{[], _++_}
 use Rattle.common.specs.Bytes.{Bytes, isEmpty}
 use Rattle.options.specs.Options.{isOff, isBasic}
 use Rattle.options.specs.declared.ExtractOptions.{ExtractOptions}
@@ -28,15 +28,17 @@ showsAny w piece = not (isEmpty (shortened (w .squeeze) (w .space) piece))
 abbrev pub isSilent : Showing → Bytes → Bool
 isSilent w piece = w .dropped || (w .empty && not (showsAny w piece))
 
+-- nothing of a dropped entry is shown, and nothing of its text is looked at
 unfoldable pub showingAfter : Showing → Bytes → Showing
 showingAfter w piece =
-    record {
+    cond (w .dropped) w
+    (record {
       dropped = w .dropped;
       squeeze = w .squeeze;
       escapes = w .escapes;
       empty = w .empty && not (showsAny w piece);
       space = spaceAfter isSpace (w .space) piece;
-    }
+    })
 
 module _ (f : Formatting) (bullets : Bool) where
   -- what stands before the first byte that is shown

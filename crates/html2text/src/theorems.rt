@@ -1,4 +1,5 @@
 // What is shown of the definitions and the worked examples, as a contract.
+ghost use Rattle.html2text.specs.Counts.{CountsAreRight};
 ghost use Rattle.html2text.specs.Encoded.{TextIsUtf8};
 ghost use Rattle.html2text.specs.Examples.{ExamplesAreRight};
 ghost use Rattle.html2text.specs.Promises.{AlikeRight, Demand3ForAll, PassesRight, WalkRight};
@@ -10,4 +11,5 @@ pub fn theorems()
     ensures demand { λ r. ⌜ Demand3ForAll ⌝ }
     ensures encoding { λ r. ⌜ TextIsUtf8 ⌝ }
     ensures examples { λ r. ⌜ ExamplesAreRight ⌝ }
+    ensures counts { λ r. ⌜ CountsAreRight ⌝ }
 {}

@@ -8,6 +8,8 @@ use Rattle.common.specs.Bytes.{Bytes}
 use Rattle.common.proofs.Choice.{by-test}
 use Rattle.extract.specs.Concluding.{Extracts, Answers}
 use Rattle.filters.specs.Filters.{filtered, filterDepth}
+use Rattle.html2text.specs.Escapes.{escapedLength, readIn}
+use Rattle.html2text.specs.Escapes as escapes
 use Rattle.html2text.specs.Extract as extract
 use Rattle.html2text.specs.declared.Extraction.{Extraction}
 use Rattle.html2text.specs.declared.Extraction.the-variants.{Refused}
@@ -20,12 +22,20 @@ use Rattle.sheet.specs.declared.verdict.Verdict.the-variants.{Sheet}
 use Rattle.tree.specs.Page.{nodeAt, pageOf}
 use Rattle.sheet.proofs.Acceptance.{header-refuses, header-passes, judged-stages, sheet-of}
 use Rattle.tree.proofs.QuestionsLaws.{on-sheet-refused}
-use Rattle.reader.specs.Extraction.{filters, extractionOf, outAfterOf, workAfterOf}
+use Rattle.reader.specs.Extraction.{filters, extractionOf, outAfterOf, workAfterOf, escapedLengthOf}
 
 -- the filters of a page read no marks
 same-filters : (s : Bytes) (l : Layout) (o : ExtractOptions) → filtered (pageOf s l) o ≡ filters (nodeAt s l) (depths s l) (l .root) o
 unfolding filtered filterDepth
 same-filters s l o = refl
+
+-- a refusal reads nothing
+refused-reads : {v : Verdict} {r : Extraction} (m n : ℕ) → r ≡ Refused v → readIn r m ≡ readIn r n
+refused-reads m n e = rw e
+
+escapes-of-page : (s : Bytes) (o : ExtractOptions) {l : Layout} → verdict s ≡ Sheet l → escapedLengthOf s o ≡ escapedLength (filtered (pageOf s l) o) (pageOf s l) o
+unfolding escapes.escapedLengthOf
+escapes-of-page s o {l} v = rw v (ap (λ (f : ℕ → Bool). escapedLength f (pageOf s l) o) (sym (same-filters s l o)))
 
 module _ (s : Bytes) (o : ExtractOptions) (out work : Bytes) where
   module _ {l : Layout} {r : Extraction} {out′ work′ : Bytes} (v : verdict s ≡ Sheet l) (x : Extracts (filtered (pageOf s l) o) (pageOf s l) o out work r out′ work′) where
@@ -73,3 +83,9 @@ module _ (s : Bytes) (o : ExtractOptions) (out work : Bytes) where
         by-test (isSheet (judged s l))
         (λ t. let v = sym judges ∙ sheet t in let y = x .accepted (sheet t) in (sheet-answer v y, sheet-out v y, sheet-work v y))
         (λ f. (x .refused f ∙ refused-answer judges f, x .out-same f ∙ refused-out judges f, x .work-same f ∙ refused-work judges f))
+
+    pub answers-read : {n : ℕ} → n ≡ readIn r (escapedLength (filtered (pageOf s l) o) (pageOf s l) o) → n ≡ readIn r (escapedLengthOf s o)
+    answers-read c =
+        by-test (isSheet (judged s l))
+        (λ t. c ∙ ap (readIn r) (sym (escapes-of-page s o (sym judges ∙ sheet t))))
+        (λ f. c ∙ refused-reads (escapedLength (filtered (pageOf s l) o) (pageOf s l) o) (escapedLengthOf s o) (x .refused f))

@@ -4,6 +4,7 @@ use mathlib.Core.List.{List}
 use Prim.Native.Nat.{ℕ}
 use Rattle.common.specs.Bytes.{Bytes}
 use Rattle.filters.specs.Filters.{filtered}
+use Rattle.html2text.specs.Escapes as escapes
 use Rattle.html2text.specs.Extract as extract
 use Rattle.html2text.specs.declared.Extraction.{Extraction}
 use Rattle.options.specs.declared.ExtractOptions.{ExtractOptions}
@@ -22,3 +23,7 @@ outAfterOf s o out work = extract.outAfterOf filters s o out work
 
 abbrev pub workAfterOf : Bytes → ExtractOptions → Bytes → Bytes
 workAfterOf s o work = extract.workAfterOf filters s o work
+
+-- the bytes of the texts that are escaped, each once
+abbrev pub escapedLengthOf : Bytes → ExtractOptions → ℕ
+escapedLengthOf s o = escapes.escapedLengthOf filters s o

@@ -1,4 +1,5 @@
 // The entry points. Each comes back for every input with what its statement says; nothing is demanded of the caller.
+use extract::Counted;
 use extract::sized::extract_sized;
 use html2text::Extraction;
 pub use links::questions::measure_of;
@@ -17,12 +18,36 @@ pub use tree::questions::next_sibling_of;
 pub use tree::questions::parent_of;
 ghost use mathlib.Core.Path.{_≡_};
 ghost use lib.ListN.{length};
+ghost use Rattle.html2text.specs.Escapes.{readIn};
 ghost use Rattle.html2text.specs.Extract.{numbers};
 ghost use Rattle.reader.specs.Demands.{Demand1, Demand2, Demand3};
-ghost use Rattle.reader.specs.Extraction.{extractionOf, outAfterOf, workAfterOf};
+ghost use Rattle.reader.specs.Extraction.{escapedLengthOf, extractionOf, outAfterOf, workAfterOf};
 ghost use Rattle.reader.specs.Pages.{PagesRight};
 
 pub mod theorems;
+
+// The extraction, and how many bytes its writing read of the texts that are escaped, each once.
+fn extract_counted(
+    sheet: &[u8],
+    options: ExtractOptions,
+    out: &mut [u8],
+    work: &mut [u8],
+) -> Counted
+    ensures answer { λ r. ⌜ r .extraction ≡ extractionOf (now (sheet .entry)) options (length (now (out .entry))) (length (now (work .entry))) ⌝ }
+    ensures text { λ r. ⌜ now (out .exit) ≡ outAfterOf (now (sheet .entry)) options (now (out .entry)) (now (work .entry)) ⌝ }
+    ensures cleared { λ r. ⌜ now (work .exit) ≡ workAfterOf (now (sheet .entry)) options (now (work .entry)) ⌝ }
+    ensures said { λ r. ⌜ numbers (r .extraction) ≡ numbers (extractionOf (now (sheet .entry)) options (length (now (out .entry))) (length (now (work .entry)))) ⌝ }
+    ensures counted { λ r. ⌜ r .read ≡ readIn (r .extraction) (escapedLengthOf (now (sheet .entry)) options) ⌝ }
+{
+    let v = header_in(sheet, 8);
+    let Verdict::Sheet(l) = v else {
+        return Counted {
+            extraction: Extraction::Refused(v),
+            read: 0,
+        };
+    };
+    extract_sized(sheet, l, options, out, work)
+}
 
 // The text of a page, or why there is none.
 pub fn extract(sheet: &[u8], options: ExtractOptions, out: &mut [u8], work: &mut [u8]) -> Extraction
@@ -31,11 +56,8 @@ pub fn extract(sheet: &[u8], options: ExtractOptions, out: &mut [u8], work: &mut
     ensures cleared { λ r. ⌜ now (work .exit) ≡ workAfterOf (now (sheet .entry)) options (now (work .entry)) ⌝ }
     ensures said { λ r. ⌜ numbers r ≡ numbers (extractionOf (now (sheet .entry)) options (length (now (out .entry))) (length (now (work .entry)))) ⌝ }
 {
-    let v = header_in(sheet, 8);
-    let Verdict::Sheet(l) = v else {
-        return Extraction::Refused(v);
-    };
-    extract_sized(sheet, l, options, out, work)
+    let r = extract_counted(sheet, options, out, work);
+    r.extraction
 }
 
 // The three demands, and the worked pages. It has no work to do: its promise is what is proved of every extraction.

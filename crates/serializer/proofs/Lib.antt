@@ -1,6 +1,9 @@
+pub mod FirstLaws
 pub mod HtmlLaws
+pub mod LengthLaws
 pub mod LevelLaws
 pub mod MarginLaws
+pub mod PieceLaws
 pub mod RowLaws
 pub mod ShowingLaws
 pub mod StandsLaws

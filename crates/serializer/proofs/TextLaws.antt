@@ -1,19 +1,15 @@
 -- The text of an entry: whether anything of it is shown, its indentation and prefix, and the text behind them.
 use mathlib.Core.Path.{_≡_, refl, sym, ap, _∙_}
 use mathlib.Core.Bool.{Bool, true, false, _&&_, _||_, not}
-use mathlib.Core.List.{List, [], _∷_, _++_}
-use Prim.Native.Nat.{ℕ, suc, _+_, _-_, _*_, _≤_, _<_}
-use native.Mathlib.Numerals.{add-one}
+use mathlib.Core.List.{List, []}
+use Prim.Native.Nat.{ℕ, _+_, _-_, _*_, _<_}
 use native.Mathlib.Omega.{arith}
 use lib.Dec.{eqb, ltb}
-use lib.ListN.{length, getD, drop, replicate, length-replicate, drop-of-length-le}
-use lib.Seq.{drop-cons}
-use borrow.Author.Tests.{lt-ltb, ne-eqb}
+use lib.ListN.{replicate, length-replicate}
+use borrow.Author.Tests.{ne-eqb}
 use Rattle.common.specs.Bytes.{Bytes, isEmpty, lengthLimit}
 use Rattle.common.proofs.Choice.{by-test}
-use Rattle.text.specs.Text.{isSpace, squeezed, collapseBy, collapseFrom}
-use Rattle.text.proofs.CollapseLaws.{trim-start-collapse}
-use Rattle.text.proofs.SpaceLaws.{space-32}
+use Rattle.text.specs.Text.{trimStartBy, collapseBy, collapseFrom}
 use Rattle.writer.specs.Out.{Out, pushAll}
 use Rattle.writer.specs.Shown.{shown}
 use Rattle.writer.specs.Writing.{Ready, Does}
@@ -23,52 +19,12 @@ use Rattle.writer.proofs.HeldLaws.{run-small}
 use Rattle.writer.proofs.ShownLaws.{shown-shortened}
 use Rattle.html2text.specs.Serialize.{State, onOut, withPrefix, withBullet, withUncollapsed, one, collapses, margin, trims, shortened, indentText, lead, putText, bulletText, numberText}
 use Rattle.html2text.specs.declared.ExtractNode.{ExtractNode}
-use Rattle.serializer.specs.Serializing.{setWriter, setPrefix, setBullet, setUncollapsed, Lent, lent, Stands, AbleOut, WorksAlone, WorksOut, prefixText, allBlank}
+use Rattle.serializer.specs.Serializing.{setWriter, setPrefix, setBullet, setUncollapsed, Lent, lent, Stands, AbleOut, WorksAlone, WorksOut, prefixText}
 use Rattle.serializer.specs.declared.Serializer.{Serializer}
 use Rattle.serializer.proofs.MarginLaws.{rises-margin}
 use Rattle.serializer.proofs.RowLaws.{ends-blank}
 use Rattle.serializer.proofs.StandsLaws.{stands-prefix, stands-bullet, stands-uncollapsed}
 use Rattle.serializer.proofs.WorksLaws.{Rises, rises-none, rises-then, rises-cond, out-none, out-alone, out-first, out-able-by, out-by, out-then, text-ready, text-works}
-
--- ---- whether a text is blank, as a loop has it
-
-module _ (s : Bytes) (i : ℕ) (h : i < length s) where
-  pub blank-next : isSpace (getD s i 0) ≡ true → allBlank (drop i s) ≡ allBlank (drop (i + 1) s)
-  blank-next e = rw (add-one, drop-cons s i 0 h, e)
-
-  pub blank-not : isSpace (getD s i 0) ≡ false → allBlank (drop i s) ≡ false
-  blank-not e = rw (drop-cons s i 0 h, e)
-
-pub blank-done : (s : Bytes) (i : ℕ) → length s ≤ i → allBlank (drop i s) ≡ true
-blank-done s i h = rw (drop-of-length-le s {i = i} h)
-
--- ---- whether anything is left
-
-empty-from : (s : Bytes) → isEmpty (collapseFrom isSpace true s) ≡ allBlank s
-unfolding collapseFrom
-empty-from [] = refl
-empty-from (c ∷ s) = go (isSpace c) (empty-from s)
-  where
-    go : (b : Bool) → isEmpty (collapseFrom isSpace true s) ≡ allBlank s → isEmpty (squeezed b true c ++ collapseFrom isSpace b s) ≡ (b && allBlank s)
-    go true e = e
-    go false e = refl
-
-pub empty-trimmed : (s : Bytes) → isEmpty (shortened true true s) ≡ allBlank s
-unfolding collapseBy
-empty-trimmed s = ap isEmpty (trim-start-collapse isSpace (space-32 32 refl) false s) ∙ empty-from s
-
-pub empty-collapsed : (s : Bytes) → isEmpty (shortened true false s) ≡ isEmpty s
-unfolding collapseBy collapseFrom
-empty-collapsed [] = refl
-empty-collapsed (c ∷ s) = go (isSpace c)
-  where
-    go : (b : Bool) → isEmpty (squeezed b false c ++ collapseFrom isSpace b s) ≡ false
-    go true = refl
-    go false = refl
-
-pub empty-length : (s : Bytes) → ltb 0 (length s) ≡ not (isEmpty s)
-empty-length [] = refl
-empty-length (c ∷ s) = lt-ltb 0 (suc (length s)) (omega arith)
 
 -- ---- where the leading blanks go
 
@@ -212,9 +168,10 @@ rises-put-text off basic bullets n block text =
     }
 
 pub put-text-nothing : (off basic bullets : Bool) (n : ExtractNode) (block : Bool) (S : State) → putText off basic bullets n block [] S ≡ S
+unfolding collapseBy collapseFrom trimStartBy
 put-text-nothing off basic bullets n block S = put-text-empty off basic bullets n block [] S (nothing-left (collapses off n) (trims block S))
   where
     nothing-left : (squeeze trim : Bool) → isEmpty (shortened squeeze trim []) ≡ true
-    nothing-left true true = empty-trimmed []
-    nothing-left true false = empty-collapsed []
+    nothing-left true true = refl
+    nothing-left true false = refl
     nothing-left false trim = refl

@@ -1,6 +1,6 @@
 -- An entry along its text: what the functions that begin it and that show a piece of it ask for and promise.
 use mathlib.Core.Path.{_≡_}
-use mathlib.Core.Bool.{Bool, true, false, _&&_, _||_, not}
+use mathlib.Core.Bool.{Bool, true, false, _||_, cond}
 use mathlib.Core.List.{List, []}
 use Prim.Native.Nat.{ℕ, _+_, _≤_, _<_}
 use lib.Dec.{ltb}
@@ -46,19 +46,37 @@ pub record Begins (f : Formatting) (bullets : Bool) (n : ExtractNode) (write : B
 
 -- ---- a piece of its text
 
--- `showingAfter`, by whether anything of the piece is left and whether a blank stands last
-abbrev pub showingThen : Showing → Bool → Bool → Showing
-showingThen w any space =
-    record { dropped = w .dropped; squeeze = w .squeeze; escapes = w .escapes; empty = w .empty && not any; space = space }
+-- how often a piece is escaped: `escapes` where its entry is, `escaped` where `collect` does it
+abbrev pub timesOf : Bool → Bool → ℕ
+timesOf escapes escaped = cond escapes (cond escaped 2 1) (cond escaped 1 0)
+
+-- how many bytes are read of a text that is escaped, and none of another: nothing of a dropped entry is looked at
+abbrev pub readOf : Showing → Bool → Bytes → ℕ
+readOf w escaped s = cond (w .dropped) 0 (cond (w .escapes || escaped) (length s) 0)
+
+-- `showingAfter`, where something was shown; `space`: whether a blank stands last
+abbrev pub shownThen : Showing → Bool → Showing
+shownThen w space = record { dropped = w .dropped; squeeze = w .squeeze; escapes = w .escapes; empty = false; space = space }
 
 module _ (f : Formatting) (bullets : Bool) (write : Bool) where
-  pub record ShowReady (p : Progress) (out piece : Bytes) : Type 0 where
+  -- the lengths of the entries' texts are kept where nothing is written; `read`: how many bytes of escaped texts are to be read
+  pub record ShowReady (p : Progress) (out piece : Bytes) (read : ℕ) : Type 0 where
     pub able : AbleOut write (p .serializer) out (showPiece f bullets (p .showing) piece)
-    pub below : p .len ≤ p .need
-    pub small : p .len + length piece < lengthLimit
+    pub below : write ≡ false → p .len ≤ p .need
+    pub small : write ≡ false → p .len + length piece < lengthLimit
+    pub count : p .read + read < lengthLimit
 
-  pub record Shows (p : Progress) (out : Bytes) (p′ : Progress) (out′ piece : Bytes) : Type 0 where
+  pub record Shows (p : Progress) (out : Bytes) (p′ : Progress) (out′ piece : Bytes) (read : ℕ) : Type 0 where
     pub works : WorksOut write (p .serializer) out (p′ .serializer) out′ (showPiece f bullets (p .showing) piece)
     pub showing : p′ .showing ≡ showingAfter (p .showing) piece
-    pub len : p′ .len ≡ p .len + length piece
-    pub need : p′ .need ≡ greater (p .need) (p .len + length piece)
+    pub len : write ≡ false → p′ .len ≡ p .len + length piece
+    pub need : write ≡ false → p′ .need ≡ greater (p .need) (p .len + length piece)
+    pub read-is : p′ .read ≡ p .read + read
+
+-- a piece of which nothing is shown
+pub record Passed (write : Bool) (p p′ : Progress) (piece : Bytes) (read : ℕ) : Type 0 where
+  pub serializer : p′ .serializer ≡ p .serializer
+  pub showing : p′ .showing ≡ p .showing
+  pub len : write ≡ false → p′ .len ≡ p .len + length piece
+  pub need : write ≡ false → p′ .need ≡ greater (p .need) (p .len + length piece)
+  pub read-is : p′ .read ≡ p .read + read

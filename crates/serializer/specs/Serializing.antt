@@ -1,7 +1,7 @@
 -- What the numbers and the lent arrays say of the state of `serialize`, and what the parts of a step ask for and promise.
 use mathlib.Core.Path.{_≡_}
 use mathlib.Core.Bool.{Bool, true, false, _&&_, not, cond}
-use mathlib.Core.List.{List, [], _∷_}
+use mathlib.Core.List.{List, []}
 use Prim.Native.Nat.{ℕ, _+_, _-_, _*_, _≤_, _<_}
 use lib.Dec.{eqb}
 use lib.ListN.{length, getD, take, replicate}
@@ -9,7 +9,6 @@ use Rattle.common.specs.Bytes.{Bytes, codes, lengthLimit}
 use Rattle.options.specs.Options.{isOff}
 use Rattle.options.specs.declared.Formatting.{Formatting}
 use Rattle.tags.specs.Tags.{isTr}
-use Rattle.text.specs.Text.{isSpace}
 use Rattle.writer.specs.Out.{Out, pushAll}
 use Rattle.writer.specs.Writing.{Held, Room}
 use Rattle.writer.specs.declared.Writer.{Writer}
@@ -146,11 +145,6 @@ lastNumber numbering d = cond (eqb d 0) 0 (getD numbering (d - 1) 0)
 
 unfoldable pub levels : ExtractNode → State → State
 levels n S = level n (countUncollapsed n S)
-
--- whether all bytes are blanks
-abbrev pub allBlank : Bytes → Bool
-allBlank [] = true
-allBlank (c ∷ s) = isSpace c && allBlank s
 
 -- a tag: what stands before it and behind its name
 abbrev pub tagIndent : Bool → ℕ → Out → Out

@@ -33,11 +33,12 @@ pub struct Begun {
 }
 
 // Along an entry: the state with what is known of its text; how more of it is shown; the length of its text before it is shortened, and
-// the greatest such length so far.
+// the greatest such length so far, both kept where nothing is written; and how many bytes of escaped texts were read.
 pub struct Progress {
     pub serializer: Serializer,
     pub len: usize,
     pub need: usize,
+    pub read: usize,
     pub showing: Showing,
 }
 

@@ -7,44 +7,23 @@ use html2text::ExtractNode;
 use html2text::Showing;
 use options::Formatting;
 use writer::Writer;
-ghost use mathlib.Core.Bool.{_&&_, _||_, not};
+use writer::texts::First;
+use writer::texts::first_of;
+use writer::texts::put_text;
+ghost use mathlib.Core.Bool.{_&&_, _||_, cond, false};
 ghost use mathlib.Core.Path.{_≡_};
+ghost use Prim.Native.Nat.{_+_, _<_, _≤_};
 ghost use lib.Dec.{eqb, ltb};
-ghost use Rattle.common.specs.Bytes.{isEmpty};
-ghost use Rattle.html2text.specs.Serialize.{indentText, lead, one, shortened};
-ghost use Rattle.html2text.specs.Showing.{leadIn, showPiece, showsAny};
-ghost use Rattle.text.specs.Text.{escape, isSpace, spaceAfter};
+ghost use lib.ListN.{length};
+ghost use Rattle.common.specs.Bytes.{lengthLimit};
+ghost use Rattle.html2text.specs.Serialize.{indentText, lead, one};
+ghost use Rattle.html2text.specs.Showing.{leadIn};
 ghost use Rattle.writer.specs.Out.{pushAll};
-ghost use Rattle.writer.specs.Shown.{shown};
+ghost use Rattle.writer.specs.Shown.{escapedIf};
+ghost use Rattle.writer.specs.Texts.{BeginsAt};
 ghost use Rattle.writer.specs.Writing.{Does, Ready};
-ghost use Rattle.serializer.specs.Progress.{ShowReady, Shows, showingBehind, showingThen};
-ghost use Rattle.serializer.specs.Serializing.{AbleOut, WorksOut, allBlank, prefixText};
-
-fn is_blank(text: &[u8]) -> bool
-    ensures { λ r. ⌜ r ≡ allBlank (now (text .entry)) ⌝ }
-{
-    let mut i = 0;
-    while i < text.len() {
-        if !text::is_space(text[i]) {
-            return false;
-        }
-        i += 1;
-    }
-    true
-}
-
-// Whether anything of a text is left once it is shortened.
-fn shows(text: &[u8], squeeze: bool, trim: bool) -> bool
-    ensures { λ r. ⌜ r ≡ not (isEmpty (shortened squeeze trim (now (text .entry)))) ⌝ }
-{
-    if squeeze {
-        if trim {
-            return !is_blank(text);
-        }
-        return 0 < text.len();
-    }
-    0 < text.len()
-}
+ghost use Rattle.serializer.specs.Progress.{Passed, ShowReady, Shows, readOf, shownThen, showingBehind, timesOf};
+ghost use Rattle.serializer.specs.Serializing.{AbleOut, WorksOut, prefixText};
 
 // `n.block || out.chars().last().is_some_and(is_space)`
 fn trims(block: bool, w: Writer) -> bool
@@ -150,148 +129,165 @@ fn lead_in(
     s
 }
 
-// Whether a piece changes nothing; any: whether anything of it is left once it is shortened.
-fn is_silent(w: Showing, any: bool) -> bool
-    ensures { λ r. ⌜ r ≡ (w .dropped || (w .empty && not any)) ⌝ }
+// How often a piece is escaped: with its entry, and by `collect`.
+fn times_of(escapes: bool, escaped: bool) -> u8
+    ensures { λ r. ⌜ r ≡ timesOf escapes escaped ⌝ }
 {
-    if w.dropped {
-        return true;
+    if escapes {
+        if escaped {
+            return 2;
+        }
+        return 1;
     }
-    w.empty && !any
+    if escaped {
+        return 1;
+    }
+    0
 }
 
-// A piece of the text; any: whether anything of it is left once it is shortened.
-fn show_piece(
-    f: Formatting,
-    bullets: bool,
-    s: Serializer,
-    w: Showing,
-    any: bool,
-    piece: &[u8],
-    out: &mut [u8],
-    write: bool,
-) -> Serializer
-    requires { ⌜ any ≡ showsAny w (now piece) ⌝ }
-    requires { ⌜ AbleOut write s (now out) (showPiece f bullets w (now piece)) ⌝ }
-    ensures { λ r. ⌜ WorksOut write s (now (out .entry)) r (now (out .exit)) (showPiece f bullets w (now (piece .entry))) ⌝ }
+// What was read of a text, if it is escaped.
+fn counted(escapes: bool, escaped: bool, read: usize) -> usize
+    ensures { λ r. ⌜ r ≡ cond (escapes || escaped) read 0 ⌝ }
 {
-    if is_silent(w, any) {
-        return s;
+    if escapes {
+        return read;
     }
-    let a = lead_in(f, bullets, s, w, out, write);
-    let q = writer::put_text(a.writer, piece, w.squeeze, w.space, w.escapes, out, write);
-    let mut r = a;
-    r.writer = q;
-    r
+    if escaped {
+        return read;
+    }
+    0
 }
 
-// Whether a blank stands last.
-fn space_after(space: bool, piece: &[u8]) -> bool
-    ensures { λ r. ⌜ r ≡ spaceAfter isSpace space (now (piece .entry)) ⌝ }
+// The length of the entry's text with a piece more, which is kept where nothing is written.
+fn longer(len: usize, piece: &[u8], escaped: bool, write: bool) -> usize
+    requires { ⌜ (write ≡ false → len + length (escapedIf escaped (now piece)) < lengthLimit) ⌝ }
+    ensures { λ r. ⌜ (write ≡ false → r ≡ len + length (escapedIf escaped (now (piece .entry)))) ⌝ }
 {
-    let n = piece.len();
-    if n == 0 {
-        return space;
+    if write {
+        return len;
     }
-    text::is_space(piece[n - 1])
+    if escaped {
+        return len + text::escaped_len(piece);
+    }
+    len + piece.len()
 }
 
-fn showing_after(w: Showing, any: bool, space: bool) -> Showing
-    ensures { λ r. ⌜ r ≡ showingThen w any space ⌝ }
+// A piece of which nothing is shown; read: how many bytes of it were read.
+fn pass_by(p: Progress, piece: &[u8], escaped: bool, read: usize, write: bool) -> Progress
+    requires { ⌜ (write ≡ false → p .len + length (escapedIf escaped (now piece)) < lengthLimit) ⌝ }
+    requires { ⌜ (p .read < lengthLimit) × (read ≤ length (now piece)) ⌝ }
+    ensures { λ r. ⌜ Passed write p r (escapedIf escaped (now (piece .entry))) read ⌝ }
 {
-    let empty = w.empty && !any;
+    let len = longer(p.len, piece, escaped, write);
+    let need = writer::greater(p.need, len);
+    let mut q = p;
+    q.len = len;
+    q.need = need;
+    q.read = p.read + read;
+    q
+}
+
+// How more of the text is shown, behind something that was.
+fn shown_then(w: Showing, space: bool) -> Showing
+    ensures { λ r. ⌜ r ≡ shownThen w space ⌝ }
+{
     Showing {
         dropped: w.dropped,
         squeeze: w.squeeze,
         escapes: w.escapes,
-        empty,
+        empty: false,
         space,
     }
 }
 
-// A piece more of the open entry's text.
+// A piece from its first byte on that is shown, which is in hand.
+fn show_from(
+    f: Formatting,
+    bullets: bool,
+    p: Progress,
+    piece: &[u8],
+    first: First,
+    escaped: bool,
+    out: &mut [u8],
+    write: bool,
+) -> Progress
+    requires { ⌜ (p .showing .dropped ≡ false) × BeginsAt (p .showing .squeeze && p .showing .space) (now piece) first × (first .at < length (now piece)) ⌝ }
+    requires { ⌜ ShowReady f bullets write p (now out) (escapedIf escaped (now piece)) 0 ⌝ }
+    ensures { λ r. ⌜ Shows f bullets write p (now (out .entry)) r (now (out .exit)) (escapedIf escaped (now (piece .entry))) (readOf (p .showing) escaped (now (piece .entry))) ⌝ }
+{
+    let w = p.showing;
+    let len = longer(p.len, piece, escaped, write);
+    let need = writer::greater(p.need, len);
+    let a = lead_in(f, bullets, p.serializer, w, out, write);
+    let times = times_of(w.escapes, escaped);
+    let q = put_text(a.writer, piece, first, w.squeeze, times, out, write);
+    let writer = q.writer;
+    let mut serializer = a;
+    serializer.writer = writer;
+    let read = p.read + counted(w.escapes, escaped, q.read);
+    let showing = shown_then(w, q.space);
+    Progress {
+        serializer,
+        len,
+        need,
+        read,
+        showing,
+    }
+}
+
+// Whether blanks in front of a piece are not shown.
+fn trims_front(w: Showing) -> bool
+    ensures { λ r. ⌜ r ≡ (w .squeeze && w .space) ⌝ }
+{
+    w.squeeze && w.space
+}
+
+// A piece more of the open entry's text, which `collect` escapes where `escaped`.
 pub fn show(
     f: Formatting,
     bullets: bool,
     p: Progress,
     piece: &[u8],
+    escaped: bool,
     out: &mut [u8],
     write: bool,
 ) -> Progress
-    requires { ⌜ ShowReady f bullets write p (now out) (now piece) ⌝ }
-    ensures { λ r. ⌜ Shows f bullets write p (now (out .entry)) r (now (out .exit)) (now (piece .entry)) ⌝ }
+    requires { ⌜ ShowReady f bullets write p (now out) (escapedIf escaped (now piece)) 0 ⌝ }
+    ensures { λ r. ⌜ Shows f bullets write p (now (out .entry)) r (now (out .exit)) (escapedIf escaped (now (piece .entry))) (readOf (p .showing) escaped (now (piece .entry))) ⌝ }
 {
     let w = p.showing;
-    let any = shows(piece, w.squeeze, w.space);
-    let serializer = show_piece(f, bullets, p.serializer, w, any, piece, out, write);
-    let showing = showing_after(w, any, space_after(w.space, piece));
-    let len = p.len + piece.len();
-    let need = writer::greater(p.need, len);
-    Progress {
-        serializer,
-        len,
-        need,
-        showing,
+    if piece.len() == 0 {
+        return p;
     }
+    if w.dropped {
+        return pass_by(p, piece, escaped, 0, write);
+    }
+    let first = first_of(piece, trims_front(w));
+    if first.at == piece.len() {
+        return pass_by(
+            p,
+            piece,
+            escaped,
+            counted(w.escapes, escaped, first.read),
+            write,
+        );
+    }
+    show_from(f, bullets, p, piece, first, escaped, out, write)
 }
 
-// A piece that is escaped on its own, and again where its entry is.
-fn put_escaped(w: Writer, piece: &[u8], how: Showing, out: &mut [u8], write: bool) -> Writer
-    requires { ⌜ Ready write w (now out) (pushAll (shown (how .squeeze) (how .space) (how .escapes) (escape (now piece)))) ⌝ }
-    ensures { λ r. ⌜ Does write w (now (out .entry)) r (now (out .exit)) (pushAll (shown (how .squeeze) (how .space) (how .escapes) (escape (now (piece .entry))))) ⌝ }
-{
-    if how.escapes {
-        return writer::put_twice(w, piece, how.squeeze, how.space, out, write);
-    }
-    writer::put_text(w, piece, how.squeeze, how.space, true, out, write)
-}
-
-fn show_escaped_piece(
-    f: Formatting,
-    bullets: bool,
-    s: Serializer,
-    w: Showing,
-    any: bool,
-    piece: &[u8],
-    out: &mut [u8],
-    write: bool,
-) -> Serializer
-    requires { ⌜ any ≡ showsAny w (escape (now piece)) ⌝ }
-    requires { ⌜ AbleOut write s (now out) (showPiece f bullets w (escape (now piece))) ⌝ }
-    ensures { λ r. ⌜ WorksOut write s (now (out .entry)) r (now (out .exit)) (showPiece f bullets w (escape (now (piece .entry)))) ⌝ }
-{
-    if is_silent(w, any) {
-        return s;
-    }
-    let a = lead_in(f, bullets, s, w, out, write);
-    let q = put_escaped(a.writer, piece, w, out, write);
-    let mut r = a;
-    r.writer = q;
-    r
-}
-
-// A piece more of the open entry's text, which `collect` escapes.
-pub fn show_escaped(
+// Words of our own: they are no text of the sheet, and nothing of them counts as read.
+pub fn say(
     f: Formatting,
     bullets: bool,
     p: Progress,
-    piece: &[u8],
+    words: &[u8],
     out: &mut [u8],
     write: bool,
 ) -> Progress
-    requires { ⌜ ShowReady f bullets write p (now out) (escape (now piece)) ⌝ }
-    ensures { λ r. ⌜ Shows f bullets write p (now (out .entry)) r (now (out .exit)) (escape (now (piece .entry))) ⌝ }
+    requires { ⌜ ShowReady f bullets write p (now out) (now words) 0 ⌝ }
+    ensures { λ r. ⌜ Shows f bullets write p (now (out .entry)) r (now (out .exit)) (now (words .entry)) 0 ⌝ }
 {
-    let w = p.showing;
-    let any = shows(piece, w.squeeze, w.space);
-    let serializer = show_escaped_piece(f, bullets, p.serializer, w, any, piece, out, write);
-    let showing = showing_after(w, any, space_after(w.space, piece));
-    let len = p.len + text::escaped_len(piece);
-    let need = writer::greater(p.need, len);
-    Progress {
-        serializer,
-        len,
-        need,
-        showing,
-    }
+    let mut q = show(f, bullets, p, words, false, out, write);
+    q.read = p.read;
+    q
 }

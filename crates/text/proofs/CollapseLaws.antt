@@ -8,7 +8,7 @@ use native.Mathlib.Numerals.{add-one}
 use lib.ListN.{length, getD, drop, length-append, drop-of-length-le}
 use lib.Seq.{drop-cons}
 use Rattle.common.specs.Bytes.{Bytes}
-use Rattle.common.proofs.Choice.{by-test, absurd-test}
+use Rattle.common.proofs.Choice.{absurd-test}
 use Rattle.text.specs.Collapsed.{Collapsed}
 use Rattle.text.specs.Text.{squeezed, trimStartBy, collapseFrom, spaceAfter, collapseBy}
 
@@ -92,7 +92,7 @@ module _ (blank : ℕ → Bool) where
     -- ---- a collapsed text
 
     -- single blanks, the first not behind a blank where `space`
-    abbrev Single : Bool → Bytes → Type 0
+    abbrev pub Single : Bool → Bytes → Type 0
     Single space [] = Unit {0}
     Single space (c ∷ s) = (blank c ≡ true → (space ≡ false) × (c ≡ 0x20)) × Single (blank c) s
 
@@ -106,7 +106,7 @@ module _ (blank : ℕ → Bool) where
         go true false e h = (λ q. (refl, refl), rw space-blank h)
         go false space e h = (λ q. absurd-test q e, rw e h)
 
-    collapse-single : (space : Bool) (s : Bytes) → Single space s → collapseFrom blank space s ≡ s
+    pub collapse-single : (space : Bool) (s : Bytes) → Single space s → collapseFrom blank space s ≡ s
     unfolding collapseFrom
     collapse-single space [] h = refl
     collapse-single space (c ∷ s) h = go (blank c) space refl (h .0) (collapse-single (blank c) s (h .1))

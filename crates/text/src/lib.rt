@@ -153,7 +153,7 @@ pub fn collapse(s: &[u8], out: &mut [u8]) -> Written
 }
 
 // How many bytes a character adds to the escaped text.
-fn entity_len(b: u8) -> usize
+pub fn entity_len(b: u8) -> usize
     ensures { λ r. ⌜ r ≡ length (escaped b) ⌝ }
 {
     match b {

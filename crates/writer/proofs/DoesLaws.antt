@@ -1,5 +1,5 @@
--- One function that writes after another, and a loop of them: what they do, and that room for the whole is room for each part.
-use mathlib.Core.Path.{_≡_, refl, sym, ap, subst, _∙_}
+-- One function that writes after another: what they do, and that room for the whole is room for each part.
+use mathlib.Core.Path.{_≡_, sym, subst}
 use mathlib.Core.Bool.{Bool, cond}
 use mathlib.Core.List.{[], _++_}
 use Prim.Native.Nat.{_≤_}
@@ -85,39 +85,3 @@ module _ {write : Bool} {w : Writer} {buf : Bytes} (s t : Bytes) where
 
   pub ready-right : {w′ : Writer} {buf′ : Bytes} → Does write w buf w′ buf′ (pushAll s) → Ready write w buf (pushAll (s ++ t)) → Ready write w′ buf′ (pushAll t)
   ready-right d r = ready-then d (ready-by r (λ under o h. push-all-append s t o))
-
--- ---- a loop: what is left to write, written from here on, gives what the whole gives
-
-pub record Going (write : Bool) (w₀ : Writer) (buf₀ s : Bytes) (w : Writer) (buf left : Bytes) : Type 0 where
-  pub run : (under : Bytes) (o : Out) → Held write under w₀ buf₀ o → (o′ : Out) × Held write under w buf o′ × (pushAll left o′ ≡ pushAll s o)
-
-pub going-start : {write : Bool} {w : Writer} {buf s : Bytes} → Going write w buf s w buf s
-going-start = record { run = λ under o h. (o, h, refl) }
-
-module _ {write : Bool} {w₀ w : Writer} {buf₀ s buf left : Bytes} (g : Going write w₀ buf₀ s w buf left) where
-  pub going-more : (piece rest : Bytes) {w′ : Writer} {buf′ : Bytes} → left ≡ piece ++ rest → Does write w buf w′ buf′ (pushAll piece) → Going write w₀ buf₀ s w′ buf′ rest
-  going-more piece rest e d =
-      record {
-        run = λ under o h.
-            let k = g .run under o h in
-            (_, d .run under (k .0) (k .1), sym (ap (λ (l : Bytes). pushAll l (k .0)) e ∙ push-all-append piece rest (k .0)) ∙ k .2);
-      }
-
-  pub going-ready : (piece rest : Bytes) → left ≡ piece ++ rest → Ready write w₀ buf₀ (pushAll s) → Ready write w buf (pushAll piece)
-  going-ready piece rest e r =
-      let k = g .run (r .under) (r .out) (r .held) in
-      let q = ap (λ (o : Out). o .peak) (sym (push-all-append piece rest (k .0)) ∙ ap (λ (l : Bytes). pushAll l (k .0)) (sym e) ∙ k .2) in
-      let le = push-all-rises rest (pushAll piece (k .0)) in
-      record {
-        under = r .under;
-        out = k .0;
-        held = k .1;
-        room = record { small = omega (arith, r .room .small); fits = λ e. omega (arith, r .room .fits e) };
-      }
-
-  pub going-end : left ≡ [] → Does write w₀ buf₀ w buf (pushAll s)
-  unfolding pushAll
-  going-end e = record { run = λ under o h. let k = g .run under o h in subst (Held write under w buf) (ap (λ (l : Bytes). pushAll l (k .0)) (sym e) ∙ k .2) (k .1) }
-
-  pub going-length : Ready write w₀ buf₀ (pushAll s) → length buf ≡ length buf₀
-  going-length r = let k = g .run (r .under) (r .out) (r .held) in k .1 .long ∙ sym (r .held .long)

@@ -1,8 +1,13 @@
 pub mod CostLaws
 pub mod DigitsLaws
 pub mod DoesLaws
+pub mod FirstLaws
 pub mod HeldLaws
+pub mod LanesLaws
 pub mod OutLaws
+pub mod PlacesLaws
+pub mod PlainLaws
+pub mod PutLaws
 pub mod ShownLaws
-pub mod SqueezedLaws
-pub mod TableLaws
+pub mod TimesLaws
+pub mod WordsLaws

@@ -2,15 +2,13 @@
 use mathlib.Core.Path.{_≡_, refl, sym, ap, _∙_}
 use mathlib.Core.Bool.{Bool, true, false, _&&_, cond}
 use mathlib.Core.List.{[], _∷_, _++_, append-nil, append-assoc}
-use Prim.Native.Nat.{ℕ, suc, _+_, _*_, _≤_, _<_}
-use native.Mathlib.Numerals.{add-one}
+use Prim.Native.Nat.{ℕ, _+_, _*_, _≤_}
 use native.Mathlib.Omega.{arith}
-use lib.ListN.{length, drop, getD, drop-of-length-le}
-use lib.Seq.{drop-cons}
+use lib.ListN.{length}
 use Rattle.common.specs.Bytes.{Bytes, codes}
 use Rattle.text.specs.Text.{isSpace, isAsciiWhitespace, squeezed, trimStartBy, collapse, collapseBy, collapseFrom, escape, escaped, spaceAfter}
 use Rattle.text.proofs.CollapseLaws.{collapse-from-length, trim-start-collapse}
-use Rattle.text.proofs.EscapeLaws.{escape-append, escape-length, escape-next, escape-done, escaped-cases}
+use Rattle.text.proofs.EscapeLaws.{escape-append, escape-length, escaped-cases}
 use Rattle.text.proofs.SpaceLaws.{space-32}
 use Rattle.writer.specs.Shown.{collapsedIf, escapedIf, shown, shownByte}
 
@@ -20,7 +18,7 @@ pub byte-plain : (blank space : Bool) (c : ℕ) → shownByte blank space false 
 byte-plain true space c = refl
 byte-plain false space c = refl
 
-escape-one : (c : ℕ) → escape (c ∷ []) ≡ escaped c
+pub escape-one : (c : ℕ) → escape (c ∷ []) ≡ escaped c
 unfolding escape
 escape-one c = append-nil (escaped c)
 
@@ -45,20 +43,12 @@ shown-cons squeeze space false c s =
     collapsed-cons squeeze space c s
     ∙ ap (λ (l : Bytes). l ++ collapsedIf squeeze (squeeze && isSpace c) s) (sym (byte-plain (squeeze && isSpace c) space c))
 
--- one byte more, as a loop has it
-pub shown-next : {blank : Bool} (squeeze space escapes : Bool) (s : Bytes) (i : ℕ) → i < length s → blank ≡ (squeeze && isSpace (getD s i 0))
-    → shown squeeze space escapes (drop i s) ≡ shownByte blank space escapes (getD s i 0) ++ shown squeeze blank escapes (drop (i + 1) s)
-shown-next squeeze space escapes s i h e = rw (e, add-one, drop-cons s i 0 h) (shown-cons squeeze space escapes (getD s i 0) (drop (suc i) s))
-
 pub shown-nil : (squeeze space escapes : Bool) → shown squeeze space escapes [] ≡ []
 unfolding shown collapseFrom escape
 shown-nil true space true = refl
 shown-nil true space false = refl
 shown-nil false space true = refl
 shown-nil false space false = refl
-
-pub shown-done : (squeeze space escapes : Bool) (s : Bytes) (i : ℕ) → length s ≤ i → shown squeeze space escapes (drop i s) ≡ []
-shown-done squeeze space escapes s i h = rw (drop-of-length-le s {i = i} h) (shown-nil squeeze space escapes)
 
 pub shown-one : (squeeze space escapes : Bool) (c : ℕ) → shown squeeze space escapes (c ∷ []) ≡ shownByte (squeeze && isSpace c) space escapes c
 shown-one squeeze space escapes c = shown-cons squeeze space escapes c [] ∙ rw (shown-nil squeeze (squeeze && isSpace c) escapes) (append-nil (shownByte (squeeze && isSpace c) space escapes c))
@@ -99,24 +89,7 @@ shown-escape squeeze space (c ∷ s) =
     shown-append squeeze space false (escaped c) (escape s)
     ∙ rw (after-escaped squeeze space c, shown-escaped squeeze space c, shown-escape squeeze blank s) (sym (shown-cons squeeze space true c s))
 
--- one byte more of a text that is escaped twice, as a loop has it
-pub twice-next : {blank : Bool} (squeeze space : Bool) (s : Bytes) (i : ℕ) → i < length s → blank ≡ (squeeze && isSpace (getD s i 0))
-    → shown squeeze space true (escape (drop i s)) ≡ shown squeeze space true (escaped (getD s i 0)) ++ shown squeeze blank true (escape (drop (i + 1) s))
-twice-next squeeze space s i h e =
-    rw (escape-next s i h, e) (shown-append squeeze space true (escaped (getD s i 0)) (escape (drop (i + 1) s)) ∙ rw (after-escaped squeeze space (getD s i 0)))
-
--- a byte that has no entity
-pub twice-other : {blank : Bool} (squeeze space : Bool) (c : ℕ) → blank ≡ (squeeze && isSpace c) → escaped c ≡ c ∷ [] → shown squeeze space true (escaped c) ≡ shownByte blank space true c
-twice-other squeeze space c b e = ap (shown squeeze space true) e ∙ shown-one squeeze space true c ∙ ap (λ (q : Bool). shownByte q space true c) (sym b)
-
-pub twice-done : (squeeze space : Bool) (s : Bytes) (i : ℕ) → length s ≤ i → shown squeeze space true (escape (drop i s)) ≡ []
-twice-done squeeze space s i h = rw (escape-done s i h) (shown-nil squeeze space true)
-
 -- ---- with the functions of the Rust
-
-pub shown-plain : (space : Bool) (s : Bytes) → shown false space false s ≡ s
-unfolding shown
-shown-plain space s = refl
 
 -- as `serialize` puts them together: `trim` is whether the leading blanks go
 pub shown-shortened : (squeeze trim escapes : Bool) (s : Bytes)

@@ -1,6 +1,7 @@
-pub mod Behind
 pub mod Digits
+pub mod Lanes
 pub mod Out
+pub mod Plain
 pub mod Shown
-pub mod Table
+pub mod Texts
 pub mod Writing

@@ -48,3 +48,19 @@ trimmed w = record { len = w .kept; kept = w .kept; peak = w .peak }
 -- the buffer after a run of bytes
 abbrev pub stored : Bool → Bytes → ℕ → Bytes → Bytes
 stored write buf at s = cond write (sets buf at s) buf
+
+-- ---- by numbers alone, along a text
+
+-- room for the bytes t from `at` on
+pub record RoomAt (write : Bool) (buf : Bytes) (at : ℕ) (t : Bytes) : Type 0 where
+  pub small : at + length t < lengthLimit
+  pub fits : write ≡ true → at + length t ≤ length buf
+
+-- the bytes t from `at` on; `past` is the place behind them
+pub record StoredAt (write : Bool) (buf : Bytes) (at : ℕ) (t buf′ : Bytes) (past : ℕ) : Type 0 where
+  pub bytes : buf′ ≡ stored write buf at t
+  pub place : past ≡ at + length t
+
+-- the place behind the last of them that is no blank, or as it was before
+abbrev pub keptAt : ℕ → ℕ → Bytes → ℕ
+keptAt kept at t = cond (eqb (length (rstrip t)) 0) kept (at + length (rstrip t))

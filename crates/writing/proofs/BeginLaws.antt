@@ -5,7 +5,7 @@ use mathlib.Core.List.{List, []}
 use Prim.Native.Nat.{ℕ, _+_, _≤_, _<_}
 use native.Mathlib.Omega.{arith}
 use lib.Dec.{leb}
-use lib.ListN.{length, getD, take}
+use lib.ListN.{length, getD}
 use lib.Seq.{getD-take}
 use borrow.Author.Tests.{leb-false, ne-eqb}
 use Rattle.common.specs.Bytes.{Bytes, lengthLimit}
@@ -15,10 +15,10 @@ use Rattle.sheet.specs.declared.line.Layout.{Layout}
 use Rattle.tags.specs.Tags.{isTr}
 use Rattle.tree.specs.Page.{nodeAt}
 use Rattle.html2text.specs.Bounds.{StateBounded}
-use Rattle.html2text.specs.Collect.{Event, tagNumber, pushedNode, marked}
+use Rattle.html2text.specs.Collect.{tagNumber, pushedNode, marked}
 use Rattle.html2text.specs.Extract.{going, mostLevels, mostOpenRows, depthPasses, rowsPass}
 use Rattle.html2text.specs.Fused.{Fused, closed, pushesOn}
-use Rattle.html2text.specs.Serialize.{State, step, changesLevel}
+use Rattle.html2text.specs.Serialize.{step, changesLevel}
 use Rattle.html2text.specs.Showing.{showingOf, begun}
 use Rattle.html2text.specs.declared.ExtractNode.{ExtractNode}
 use Rattle.html2text.proofs.OpenLaws.{begun-steps}
@@ -30,7 +30,7 @@ use Rattle.collect.proofs.EntryLaws.{opens-is, node-is}
 use Rattle.serializer.specs.Progress.{Begins}
 use Rattle.serializer.specs.Serializing.{Lent, Able, Limits}
 use Rattle.serializer.specs.declared.Begun.{Begun}
-use Rattle.writing.specs.Passing.{depthPassesAt, rowsPassAt, Passes, beginning, OpenReady, Opens}
+use Rattle.writing.specs.Passing.{depthPassesAt, rowsPassAt, Passes, OpenReady, Opens}
 use Rattle.writing.specs.declared.OpenEntry.{OpenEntry}
 
 -- ---- the limits
@@ -103,7 +103,7 @@ module _ {o : ExtractOptions} {write : Bool} {under : Bytes} {p : OpenEntry} {a 
 abbrev pub openedEntry : OpenEntry → ExtractNode → Begun → OpenEntry
 openedEntry p n b =
     record {
-      progress = record { serializer = b .serializer; len = 0; need = p .progress .need; showing = b .showing };
+      progress = record { serializer = b .serializer; len = 0; need = p .progress .need; read = p .progress .read; showing = b .showing };
       depth = n .depth;
       «pre_depth» = n .«pre_depth»;
       tag = n .tag;
@@ -146,7 +146,7 @@ module _ {o : ExtractOptions} {write : Bool} {v : Visit} {p : OpenEntry} {a : Le
             depth = ap (λ (m : ExtractNode). m .depth) node;
             nested = ap (λ (m : ExtractNode). m .«pre_depth») node;
             tag = ap (λ (m : ExtractNode). m .tag) node;
-            len = refl;
+            len = λ t. refl;
             need = h .need;
             below = omega arith;
             state = step (o .formatting) (o .«list_bullets») n [] (h .state);
@@ -172,6 +172,7 @@ module _ {o : ExtractOptions} {write : Bool} {v : Visit} {p : OpenEntry} {a : Le
                       subst (λ (c : Bool). Passes o write under (openedEntry p n b) a′ (cond c (begun o e F) F)) (sym (sym (pushes-is h visits) ∙ yes))
                       (begun-passes d visits under F h);
                 };
+            read = refl;
           }
 
 -- no entry opens
@@ -184,4 +185,5 @@ open-none {o} {write} {v} {p} {a} none =
                 let e = eventOf s l v in
                 subst (λ (c : Bool). Passes o write under p a (cond c (begun o e F) F)) (sym (sym (pushes-is h visits) ∙ none)) h;
           };
+      read = refl;
     }

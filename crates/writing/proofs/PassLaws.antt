@@ -1,9 +1,10 @@
 -- Along the whole pass: the walk stands at what is left of the events, and the pass for the run before them.
-use mathlib.Core.Path.{_≡_, refl, sym, ap, subst, _∙_}
+use mathlib.Core.Path.{_≡_, refl, sym, ap, _∙_}
 use mathlib.Core.Bool.{Bool, true, false, _&&_, not, Bool·not-not}
 use mathlib.Core.List.{List, [], _∷_}
-use Prim.Native.Nat.{ℕ, suc, _+_, _<_}
+use Prim.Native.Nat.{ℕ, suc, _+_, _≤_, _<_}
 use native.Mathlib.Numerals.{add-one}
+use native.Mathlib.Nat.{mul-le-mul-right}
 use native.Mathlib.Omega.{arith}
 use lib.Dec.{eqb, leb}
 use lib.ListN.{length}
@@ -18,13 +19,15 @@ use Rattle.sheet.specs.Layout.{mostDepth}
 use Rattle.sheet.specs.declared.line.Layout.{Layout}
 use Rattle.tags.specs.Tags.{isTr, isUl, isOl, isList, isLi, isBlockTag}
 use Rattle.writer.specs.Writing.{Room}
-use Rattle.html2text.specs.Bounds.{Along}
+use Rattle.html2text.specs.Bounds.{mostEvents, mostAdded, EachAdds, Along}
 use Rattle.html2text.specs.Collect.{Event, added}
+use Rattle.html2text.specs.Escapes.{escapedBy, bytesEscaped, fedEscaped}
 use Rattle.html2text.specs.Extract.{Run, going, tooManyLevels, tooManyRows, mostLevels, mostOpenRows}
 use Rattle.html2text.specs.Fused.{Fused, idle, closed, pushesOn, fed}
 use Rattle.html2text.specs.Serialize.{State, start, changesLevel}
 use Rattle.html2text.specs.Showing.{begun}
 use Rattle.html2text.proofs.AlongLaws.{along-start, along-next, along-closed, along-end}
+use Rattle.html2text.proofs.EscapesLaws.{escaped-fused, escaped-bounded}
 use Rattle.html2text.proofs.OpenLaws.{begun-levels, begun-rows, closed-more, begun-onward, begun-written, fed-onward, fed-written, fed-need-small}
 use Rattle.html2text.proofs.RiseLaws.{Onward}
 use Rattle.html2text.proofs.ShowingLaws.{fed-in-two}
@@ -36,13 +39,13 @@ use Rattle.serializer.proofs.StandsLaws.{stands-start}
 use Rattle.walk.specs.Turns.{eventsOf}
 use Rattle.walk.specs.declared.cursor.Walk.{Walk}
 use Rattle.walk.specs.declared.cursor.Walk.the-variants.{Root}
-use Rattle.visits.specs.Visiting.{Walked, runOf, eventsIn, passesLeft, eventsLeft, Sees}
+use Rattle.visits.specs.Visiting.{Walked, runOf, eventsIn, passesOf, passesLeft, eventsLeft, Sees}
 use Rattle.visits.specs.declared.Seen.{Seen}
 use Rattle.visits.specs.declared.Seen as seen
 use Rattle.visits.proofs.Walking.{Walking, visit-seen, left-out-seen, done-seen, walking-start, walking-visit, walking-left-out, walking-end}
-use Rattle.writing.specs.Passing.{noPass, depthPassesAt, rowsPassAt, Passes, Levelled, Standing, OpenReady, PassReady, PassDoes, WriteReady, TextPassed, PassRefused}
+use Rattle.writing.specs.Passing.{noPass, depthPassesAt, rowsPassAt, Passes, Levelled, OpenReady, Opens, PassReady, PassDoes, WriteReady, TextPassed, PassRefused}
 use Rattle.writing.specs.declared.OpenEntry.{OpenEntry}
-use Rattle.writing.proofs.BeginLaws.{pushes-is, levels-begun, rows-begun, run-begun}
+use Rattle.writing.proofs.BeginLaws.{pushes-is, levels-begun, rows-begun, run-begun, open-none}
 
 -- ---- an entry that counts as a level or a row is a block, and opens
 
@@ -103,6 +106,22 @@ pub record Passing (o : ExtractOptions) (s : Bytes) (l : Layout) (left : List Bo
   pub along : Along o (runOf s l o left) (eventsLeft s l left w stack) fused
   pub passes : Passes o write under p a fused
   pub levelled : Levelled a
+  pub count : p .progress .read + fedEscaped o (eventsLeft s l left w stack) fused ≡ bytesEscaped o [] (eventsIn s l (passesOf s l left))
+  pub most : bytesEscaped o [] (eventsIn s l (passesOf s l left)) < lengthLimit
+
+-- before the first visit nothing was read, and all that will be fits a word
+all-read : (o : ExtractOptions) (es : List Event) → 0 + fedEscaped o es idle ≡ bytesEscaped o [] es
+all-read o es = omega (arith, escaped-fused o es)
+
+all-small : (o : ExtractOptions) (es : List Event) → length es ≤ mostEvents → EachAdds o es → bytesEscaped o [] es < lengthLimit
+all-small o es few each = omega (arith, escaped-fused o es, escaped-bounded o es idle each, mul-le-mul-right mostAdded few)
+
+-- a visit passes no limit, and the entry that it opens, if it opens one, is open
+pub record Opened (o : ExtractOptions) (write : Bool) (v : Visit) (p : OpenEntry) (a : Lent) (p′ : OpenEntry) (a′ : Lent) : Type 0 where
+  pub levels : depthPassesAt (o .formatting) v (p .progress .serializer .depth) ≡ false
+  pub rows : rowsPassAt v (p .progress .serializer .rows) ≡ false
+  pub opens : Opens o write v p a p′ a′
+  pub levelled : Levelled a′
 
 module _ {o : ExtractOptions} {s : Bytes} {l : Layout} {left : List Bool} where
   pub passing-start : {write : Bool} {p : OpenEntry} (stack numbering : List ℕ) (cells : List Bool) (out : Bytes) → Accepted s l → Walked s l o left → mostDepth < length stack
@@ -120,8 +139,8 @@ module _ {o : ExtractOptions} {s : Bytes} {l : Layout} {left : List Bool} where
               depth = refl;
               nested = refl;
               tag = refl;
-              len = refl;
-              need = refl;
+              len = λ t. refl;
+              need = λ t. refl;
               below = omega arith;
               state = start;
               run = refl;
@@ -129,6 +148,8 @@ module _ {o : ExtractOptions} {s : Bytes} {l : Layout} {left : List Bool} where
               showing = λ q. absurd-test q refl;
             };
         levelled = record { numbering = n; cells = c };
+        count = rw is (all-read o (eventsIn s l (passesOf s l left)));
+        most = all-small o (eventsIn s l (passesOf s l left)) (walked .few) (walked .each);
       }
 
   module _
@@ -147,6 +168,26 @@ module _ {o : ExtractOptions} {s : Bytes} {l : Layout} {left : List Bool} where
 
       pub visit-line : v .row < lengthLimit
       visit-line = omega (arith, visited .0 .inside, visited .0 .accepted .sized .nodes)
+
+      -- what this visit reads, and what the others do
+      count-here : p .progress .read + (length (escapedBy o (fed o (eventOf s l v) (h .fused) .node) (eventOf s l v)) + fedEscaped o (eventsLeft s l left x after) (fed o (eventOf s l v) (h .fused)))
+          ≡ bytesEscaped o [] (eventsIn s l (passesOf s l left))
+      unfolding fedEscaped
+      count-here = rw (visited .1) at (h .count)
+
+      -- where no entry opens, no limit is passed
+      closed-levels : opensOn o (p .any) (p .depth) v ≡ false → depthPassesAt (o .formatting) v (p .progress .serializer .depth) ≡ false
+      closed-levels n =
+          by-test (depthPassesAt (o .formatting) v (p .progress .serializer .depth))
+          (λ t. absurd-test (block-opens o (p .any) (p .depth) v (levels-block (isOff (o .formatting)) (v .end) (v .tag) (p .progress .serializer .depth) t)) n) (λ t. t)
+
+      closed-rows : opensOn o (p .any) (p .depth) v ≡ false → rowsPassAt v (p .progress .serializer .rows) ≡ false
+      closed-rows n =
+          by-test (rowsPassAt v (p .progress .serializer .rows))
+          (λ t. absurd-test (block-opens o (p .any) (p .depth) v (rows-block (v .end) (v .tag) (p .progress .serializer .rows) t)) n) (λ t. t)
+
+      pub opened-none : opensOn o (p .any) (p .depth) v ≡ false → Opened o write v p a p a
+      opened-none n = record { levels = closed-levels n; rows = closed-rows n; opens = open-none n; levelled = h .levelled }
 
       -- a limit is passed
       pushes : isBlockTag (v .tag) ≡ true → pushesOn o (h .fused) (eventOf s l v) ≡ true
@@ -210,18 +251,21 @@ module _ {o : ExtractOptions} {s : Bytes} {l : Layout} {left : List Bool} where
           visit-ready =
               let g = fed-goes-on (h .passes) (visited .0) levels rows in (
                 visited .0,
-                record { opens = open-ready; small = fed-need-small here; after = g .state; goes-on = g .is; room = room-before (g .is) (fed-written here (g .is)) (fed-onward here) },
+                record { opens = open-ready; small = fed-need-small here; after = g .state; goes-on = g .is; room = room-before (g .is) (fed-written here (g .is)) (fed-onward here); count = omega (arith, count-here, h .most) },
               )
 
-      pub passing-visit : {p′ : OpenEntry} {a′ : Lent} → length after ≡ length stack → PassDoes o write p a p′ a′ (fed o (eventOf s l v)) → Levelled a′
+      pub passing-visit : {p′ : OpenEntry} {a′ : Lent} → length after ≡ length stack → PassDoes o write p a p′ a′ (fed o (eventOf s l v))
+          → p′ .progress .read ≡ p .progress .read + length (escapedBy o (fed o (eventOf s l v) (h .fused) .node) (eventOf s l v)) → Levelled a′
           → Passing o s l left write under room after a′ x (visits + 1) p′
-      passing-visit same does levelled =
+      passing-visit same does read levelled =
           record {
             walking = walking-visit (h .walking) after saw same e;
             fused = fed o (eventOf s l v) (h .fused);
             along = along-next here;
             passes = does .run under (h .fused) (h .passes);
             levelled = levelled;
+            count = omega (arith, count-here, read);
+            most = h .most;
           }
 
     -- a row that is left out
@@ -240,17 +284,20 @@ module _ {o : ExtractOptions} {s : Bytes} {l : Layout} {left : List Bool} where
             along = rw (left-out .0) at (h .along);
             passes = h .passes;
             levelled = h .levelled;
+            count = rw (left-out .0) at (h .count);
+            most = h .most;
           }
 
     -- behind the last
-    pub passing-end : r ≡ seen.the-variants.Done → TextPassed o s l left write under (p .progress .need) visits (p .progress .serializer .writer) (a .out)
-    unfolding eventsOf
+    pub passing-end : r ≡ seen.the-variants.Done → TextPassed o s l left write under (p .progress .need) visits (p .progress .read) (p .progress .serializer .writer) (a .out)
+    unfolding eventsOf fedEscaped
     passing-end e =
         let none = ap (eventsIn s l) (done-seen s l left (passesLeft s l left w stack) after saw e) in
         let ended = along-end (rw none at (h .along)) in
         record {
-          need-is = h .passes .need ∙ ap (λ (F : Fused). F .note .peak) ended;
+          need-is = λ t. h .passes .need t ∙ ap (λ (F : Fused). F .note .peak) ended;
           visits-is = walking-end (h .walking) after saw e;
+          read-is = omega (arith, rw none at (h .count));
           state = h .passes .state;
           run = ap (closed o) (sym ended) ∙ h .passes .run;
           held = h .passes .stands .held;

@@ -15,6 +15,7 @@ use Rattle.writer.specs.Writing.{Held, Room}
 use Rattle.writer.specs.declared.Writer.{Writer}
 use Rattle.html2text.specs.Bounds.{mostEvents, StateBounded}
 use Rattle.html2text.specs.Collect.{Event, marked}
+use Rattle.html2text.specs.Escapes.{escapedBy, bytesEscaped}
 use Rattle.html2text.specs.Extract.{Run, going, tooManyLevels, tooManyRows, mostLevels, mostOpenRows}
 use Rattle.html2text.specs.Fused.{Fused, closed, pushesOn, fed}
 use Rattle.html2text.specs.Serialize.{State, changesLevel, step}
@@ -24,14 +25,14 @@ use Rattle.collect.specs.Entries.{opensOn, nodeOf}
 use Rattle.collect.specs.Visits.{Visits, eventOf}
 use Rattle.collect.specs.declared.Visit.{Visit}
 use Rattle.serializer.specs.Serializing.{noSerializer, Lent, Stands}
-use Rattle.visits.specs.Visiting.{passesOf, runOf}
+use Rattle.visits.specs.Visiting.{eventsIn, passesOf, runOf}
 use Rattle.writing.specs.declared.OpenEntry.{OpenEntry}
 use Rattle.writing.specs.declared.Passed.{Passed}
 use Rattle.writing.specs.declared.Passed.the-variants.{Text, TooManyLevels, TooManyRows}
 
 -- before the first visit
 abbrev pub noPass : OpenEntry
-noPass = record { progress = record { serializer = noSerializer; len = 0; need = 0; showing = droppedShowing }; depth = 0; «pre_depth» = 0; tag = 0; any = false }
+noPass = record { progress = record { serializer = noSerializer; len = 0; need = 0; read = 0; showing = droppedShowing }; depth = 0; «pre_depth» = 0; tag = 0; any = false }
 
 -- `depthPasses` and `rowsPass` of the entry that a visit would open
 abbrev pub depthPassesAt : Formatting → Visit → ℕ → Bool
@@ -52,8 +53,8 @@ pub record Passes (o : ExtractOptions) (write : Bool) (under : Bytes) (p : OpenE
   pub depth : p .depth ≡ F .node .depth
   pub nested : p .«pre_depth» ≡ F .node .«pre_depth»
   pub tag : p .tag ≡ F .node .tag
-  pub len : p .progress .len ≡ length (F .note .text)
-  pub need : p .progress .need ≡ F .note .peak
+  pub len : write ≡ false → p .progress .len ≡ length (F .note .text)
+  pub need : write ≡ false → p .progress .need ≡ F .note .peak
   pub below : length (F .note .text) ≤ F .note .peak
   pub state : State
   pub run : closed o F ≡ going state
@@ -96,6 +97,7 @@ pub record OpenReady (o : ExtractOptions) (write : Bool) (v : Visit) (p : OpenEn
 
 pub record Opens (o : ExtractOptions) (write : Bool) (v : Visit) (p : OpenEntry) (a : Lent) (p′ : OpenEntry) (a′ : Lent) : Type 0 where
   pub at : (s : Bytes) (l : Layout) → Visits s l v → PassDoes o write p a p′ a′ (beginning o (eventOf s l v))
+  pub read : p′ .progress .read ≡ p .progress .read
 
 -- ---- a visit
 
@@ -105,6 +107,7 @@ pub record PassReady (o : ExtractOptions) (write : Bool) (e : Event) (v : Visit)
   pub after : State
   pub goes-on : closed o (fed o e (opens .standing .fused)) ≡ going after
   pub room : Room write (opens .standing .under) (after .out .peak)
+  pub count : p .progress .read + length (escapedBy o (fed o e (opens .standing .fused) .node) e) < lengthLimit
 
 -- ---- the whole pass
 
@@ -118,9 +121,11 @@ module _ (o : ExtractOptions) (s : Bytes) (l : Layout) (left : List Bool) where
   abbrev pub WriteReady : Bool → Bytes → Type 0
   WriteReady write out = write ≡ true → TextFits out
 
-  pub record TextPassed (write : Bool) (out : Bytes) (need visits : ℕ) (w : Writer) (out′ : Bytes) : Type 0 where
-    pub need-is : need ≡ runOf s l o left .note .peak
+  -- `read`: the bytes of the texts that are escaped
+  pub record TextPassed (write : Bool) (out : Bytes) (need visits read : ℕ) (w : Writer) (out′ : Bytes) : Type 0 where
+    pub need-is : write ≡ false → need ≡ runOf s l o left .note .peak
     pub visits-is : visits ≡ length (passesOf s l left)
+    pub read-is : read ≡ bytesEscaped o [] (eventsIn s l (passesOf s l left))
     pub state : State
     pub run : closed o (runOf s l o left) ≡ going state
     pub held : Held write out w out′ (state .out)
@@ -130,7 +135,7 @@ module _ (o : ExtractOptions) (s : Bytes) (l : Layout) (left : List Bool) where
     pub still : write ≡ false → out′ ≡ out
 
   abbrev pub Outcome : Bool → Bytes → Passed → Bytes → Type 0
-  Outcome write out (Text need visits w) out′ = TextPassed write out need visits w out′
+  Outcome write out (Text need visits read w) out′ = TextPassed write out need visits read w out′
   Outcome write out (TooManyLevels line) out′ = PassRefused write out (tooManyLevels line) out′
   Outcome write out (TooManyRows line) out′ = PassRefused write out (tooManyRows line) out′
 

@@ -17,16 +17,16 @@ use visits::Seen;
 use visits::see;
 use walk::cursor::Walk;
 use writer::Writer;
+ghost use mathlib.Core.Bool.{true};
 ghost use mathlib.Core.Path.{_≡_};
 ghost use Prim.Native.Nat.{_<_};
 ghost use lib.ListN.{length};
-ghost use Rattle.collect.specs.Visits.{Visits, eventOf};
+ghost use Rattle.collect.specs.Entries.{opensOn};
 ghost use Rattle.html2text.specs.Extract.{mostLevels, mostOpenRows};
-ghost use Rattle.html2text.specs.Fused.{fed};
 ghost use Rattle.serializer.specs.Serializing.{lent};
 ghost use Rattle.sheet.specs.Layout.{mostDepth};
 ghost use Rattle.visits.specs.Visiting.{Noted, Walked};
-ghost use Rattle.writing.specs.Passing.{OpenReady, Opens, PassDoes, PassReady, PassesAll, WriteReady, depthPassesAt, noPass, rowsPassAt};
+ghost use Rattle.writing.specs.Passing.{OpenReady, Opens, PassesAll, WriteReady, depthPassesAt, noPass, rowsPassAt};
 
 // Along a pass: the open entry's progress, and of its node what later visits look at. any: whether one is open.
 pub struct OpenEntry {
@@ -37,11 +37,13 @@ pub struct OpenEntry {
     pub any: bool,
 }
 
-// Of a whole pass: the longest text of an entry, the visits and the text's lengths; or the line of the first entry that would pass a limit.
+// Of a whole pass: the longest text of an entry, where nothing is written, the visits, the bytes of escaped texts that were read and the
+// text's lengths; or the line of the first entry that would pass a limit.
 pub enum Passed {
     Text {
         need: usize,
         visits: usize,
+        read: usize,
         writer: Writer,
     },
     TooManyLevels(usize),
@@ -64,6 +66,7 @@ fn start() -> OpenEntry
         serializer,
         len: 0,
         need: 0,
+        read: 0,
         showing,
     };
     OpenEntry {
@@ -101,7 +104,7 @@ fn passes_rows(v: Visit, rows: usize) -> bool
     false
 }
 
-// The entry that a visit opens, if it opens one.
+// The entry that a visit opens.
 fn open(
     o: ExtractOptions,
     v: Visit,
@@ -111,69 +114,40 @@ fn open(
     out: &mut [u8],
     write: bool,
 ) -> OpenEntry
-    requires { ⌜ OpenReady o write v p (lent (now numbering) (now cells) (now out)) ⌝ }
+    requires { ⌜ OpenReady o write v p (lent (now numbering) (now cells) (now out)) × (opensOn o (p .any) (p .depth) v ≡ true) ⌝ }
     ensures { λ r. ⌜ Opens o write v p (lent (now (numbering .entry)) (now (cells .entry)) (now (out .entry))) r (lent (now (numbering .exit)) (now (cells .exit)) (now (out .exit))) ⌝ }
 {
-    if opens(o, p.any, p.depth, v) {
-        let f = o.formatting;
-        let n = node_of(o, p.pre_depth, v);
-        let b = begin(
-            f,
-            p.progress.serializer,
-            n,
-            o.list_bullets,
-            numbering,
-            cells,
-            out,
-            write,
-        );
-        let serializer = b.serializer;
-        let showing = b.showing;
-        let progress = Progress {
-            serializer,
-            len: 0,
-            need: p.progress.need,
-            showing,
-        };
-        return OpenEntry {
-            progress,
-            depth: n.depth,
-            pre_depth: n.pre_depth,
-            tag: n.tag,
-            any: true,
-        };
-    }
-    p
-}
-
-// A visit opens an entry or not, and adds to the open one.
-fn pass_visit(
-    o: ExtractOptions,
-    s: &[u8],
-    l: Layout,
-    v: Visit,
-    p: OpenEntry,
-    numbering: &mut [usize],
-    cells: &mut [bool],
-    out: &mut [u8],
-    write: bool,
-) -> OpenEntry
-    requires { ⌜ Visits (now s) l v ⌝ }
-    requires { ⌜ PassReady o write (eventOf (now s) l v) v p (lent (now numbering) (now cells) (now out)) ⌝ }
-    ensures { λ r. ⌜ PassDoes o write p (lent (now (numbering .entry)) (now (cells .entry)) (now (out .entry))) r (lent (now (numbering .exit)) (now (cells .exit)) (now (out .exit))) (fed o (eventOf (now (s .entry)) l v)) ⌝ }
-{
-    let q = open(o, v, p, numbering, cells, out, write);
-    let progress = add(o, s, l, v, q.tag, q.progress, out, write);
+    let f = o.formatting;
+    let n = node_of(o, p.pre_depth, v);
+    let b = begin(
+        f,
+        p.progress.serializer,
+        n,
+        o.list_bullets,
+        numbering,
+        cells,
+        out,
+        write,
+    );
+    let serializer = b.serializer;
+    let showing = b.showing;
+    let progress = Progress {
+        serializer,
+        len: 0,
+        need: p.progress.need,
+        read: p.progress.read,
+        showing,
+    };
     OpenEntry {
         progress,
-        depth: q.depth,
-        pre_depth: q.pre_depth,
-        tag: q.tag,
-        any: q.any,
+        depth: n.depth,
+        pre_depth: n.pre_depth,
+        tag: n.tag,
+        any: true,
     }
 }
 
-// The whole pass. `left` says which rows are left out.
+// The whole pass: a visit opens an entry or not, and adds to the open one. `left` says which rows are left out.
 pub fn pass(
     o: ExtractOptions,
     s: &[u8],
@@ -214,13 +188,17 @@ pub fn pass(
         );
         match seen {
             Seen::Visit(v, after) => {
-                if passes_levels(f, v, p.progress.serializer.depth) {
-                    return Passed::TooManyLevels(v.row + 1);
+                if opens(o, p.any, p.depth, v) {
+                    if passes_levels(f, v, p.progress.serializer.depth) {
+                        return Passed::TooManyLevels(v.row + 1);
+                    }
+                    if passes_rows(v, p.progress.serializer.rows) {
+                        return Passed::TooManyRows(v.row + 1);
+                    }
+                    p = open(o, v, p, numbering, cells, out, write);
                 }
-                if passes_rows(v, p.progress.serializer.rows) {
-                    return Passed::TooManyRows(v.row + 1);
-                }
-                p = pass_visit(o, s, l, v, p, numbering, cells, out, write);
+                let progress = add(o, s, l, v, p.tag, p.progress, out, write);
+                p.progress = progress;
                 w = after;
                 visits += 1;
             }
@@ -233,6 +211,7 @@ pub fn pass(
                 return Passed::Text {
                     need: p.progress.need,
                     visits,
+                    read: p.progress.read,
                     writer,
                 };
             }

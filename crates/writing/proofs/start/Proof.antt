@@ -10,7 +10,7 @@ use Rattle.writing.proofs.start.Tie as tie
 
 -- before the first visit, with such a serializer
 abbrev with : Serializer → OpenEntry
-with s = record { progress = record { serializer = s; len = 0; need = 0; showing = droppedShowing }; depth = 0; «pre_depth» = 0; tag = 0; any = false }
+with s = record { progress = record { serializer = s; len = 0; need = 0; read = 0; showing = droppedShowing }; depth = 0; «pre_depth» = 0; tag = 0; any = false }
 
 new-requires : tie.Need-new-requires
 new-requires c κs = search needs

@@ -1,35 +1,20 @@
--- `added::put_link_tag` meets its contract.
+-- `put_link_tag` meets its contract.
 use Rattle.common.specs.Bytes.{codes}
 use borrow.Author.Needs.{needs}
 use Rattle.collect.proofs.added.put_link_tag.Statement.{statement}
 use Rattle.collect.proofs.added.put_link_tag.Tie as tie
 
-slice-aggregate-put : tie.Need-slice-aggregate-put
-slice-aggregate-put c = search needs
-
-put-requires : tie.Need-put-requires
+say-requires : tie.Need-say-requires
 unfolding codes
-put-requires c κs = rw (c .before .before .if1 .taken) at (c .before .before .before .before .before .pre)
-
-same-length : tie.Need-same-length
-same-length c = search needs
+say-requires c κs = rw (c .before .before .if1 .taken) at (c .before .before .before .before .before .pre)
 
 returns : tie.Need-returns
 unfolding codes
-returns c = rw (c .before .before .before .before .before .if1 .taken) (c .before .before .put .ensures)
-
-slice-aggregate-put-between : tie.Need-slice-aggregate-put-between
-slice-aggregate-put-between c = search needs
-
-slice-aggregate-put-between-2 : tie.Need-slice-aggregate-put-between-2
-slice-aggregate-put-between-2 c = search needs
+returns c = rw (c .before .before .before .before .before .if1 .taken) (c .before .before .say .ensures)
 
 put-between-requires : tie.Need-put-between-requires
 unfolding codes
 put-between-requires c κs = rw (c .before .before .before .if1 .left) at (c .before .before .before .before .before .before .pre)
-
-same-length-2 : tie.Need-same-length-2
-same-length-2 c = search needs
 
 returns-2 : tie.Need-returns-2
 unfolding codes
@@ -39,12 +24,12 @@ pub put-link-tag-spec : {M : Type 1} → statement M
 put-link-tag-spec =
     tie.close
     (tie.spec
-    slice-aggregate-put
-    put-requires
-    same-length
+    (λ c. search needs)
+    say-requires
+    (λ c. search needs)
     returns
-    slice-aggregate-put-between
-    slice-aggregate-put-between-2
+    (λ c. search needs)
+    (λ c. search needs)
     put-between-requires
-    same-length-2
+    (λ c. search needs)
     returns-2)

@@ -2,6 +2,7 @@
 use lib.Dec.{lit≤}
 use Rattle.html2text.proofs.AlikeLaws.{same-numbers, same-walk, same-extraction, same-pages-alike, same-answers}
 use Rattle.html2text.proofs.BoundLaws.{run-bounded}
+use Rattle.html2text.proofs.CountLaws.{counts-are-right}
 use Rattle.html2text.proofs.Demand3Laws.{demand-3}
 use Rattle.html2text.proofs.EncodedLaws.{text-is-utf8}
 use Rattle.html2text.proofs.ExampleLaws.{examples-are-right}
@@ -34,7 +35,7 @@ alike : AlikeRight
 alike = record { numbers = same-numbers; walk = same-walk; extraction = same-extraction; page = same-pages-alike; sheets = same-answers }
 
 returns : tie.Need-returns
-returns c = (walk, (passes, (alike, (demand-3, (text-is-utf8, examples-are-right)))))
+returns c = (walk, (passes, (alike, (demand-3, (text-is-utf8, (examples-are-right, counts-are-right))))))
 
 pub theorems-spec : {M : Type 1} → statement M
 theorems-spec = tie.close (tie.spec returns)
