@@ -63,10 +63,11 @@ def main():
     count, seed = int(sys.argv[1]), int(sys.argv[2])
     rng = random.Random(seed)
     for i in range(count):
-        rows = [element(0, rng.choice(["body", "body", "body", "a", "pre", "li", "td"]))]
+        # the root is body, or a row below it
+        rows = [element(0, "body"), element(1, rng.choice(["div", "a", "pre", "li", "td"]))]
         for _ in range(rng.randrange(1, 6)):
-            rows += part(rng, 1)
-        sys.stdout.buffer.write(framed(LINES[i % len(LINES)], sheet(rows)))
+            rows += part(rng, 2)
+        sys.stdout.buffer.write(framed(LINES[i % len(LINES)], sheet(rows, rng.randrange(2))))
 
 
 if __name__ == "__main__":

@@ -19,7 +19,7 @@ use Rattle.writer.specs.declared.texts.Put.{Put}
 use Rattle.writer.proofs.DoesLaws.{ready-same, does-same}
 use Rattle.html2text.specs.Showing.{showingAfter, leadIn}
 use Rattle.html2text.specs.declared.Showing.{Showing}
-use Rattle.serializer.specs.Progress.{timesOf, readOf, shownThen, ShowReady, Shows, Passed}
+use Rattle.serializer.specs.Progress.{timesOf, readOf, shownThen, ShowReady, Shows, PassedBy}
 use Rattle.serializer.specs.Serializing.{setWriter, AbleOut, WorksOut}
 use Rattle.serializer.specs.declared.Progress.{Progress}
 use Rattle.serializer.specs.declared.Serializer.{Serializer}
@@ -69,12 +69,12 @@ module _ {f : Formatting} {bullets write : Bool} {p : Progress} {out : Bytes} (e
   shows-empty e h =
       rw (length-none s e, escaped-none escaped, unread (p .showing .dropped) (p .showing .escapes || escaped)) (shows-none h)
 
-  pub shows-dropped : {q : Progress} → p .showing .dropped ≡ true → Passed write p q (escapedIf escaped s) 0 → Shows f bullets write p out q out (escapedIf escaped s) (readOf (p .showing) escaped s)
+  pub shows-dropped : {q : Progress} → p .showing .dropped ≡ true → PassedBy write p q (escapedIf escaped s) 0 → Shows f bullets write p out q out (escapedIf escaped s) (readOf (p .showing) escaped s)
   shows-dropped {q} d h =
       subst (λ (n : ℕ). Shows f bullets write p out q out (escapedIf escaped s) n) (rw d) (shows-nothing h (dropped-works f bullets (p .showing) (escapedIf escaped s) d) (showing-stays (p .showing) (escapedIf escaped s) d))
 
   pub shows-blank : {q : Progress} {first : First} {n : ℕ} → p .showing .dropped ≡ false → (length s ≡ 0 → ⊥) → BeginsAt (p .showing .squeeze && p .showing .space) s first → first .at ≡ length s
-      → n ≡ cond (p .showing .escapes || escaped) (first .read) 0 → Passed write p q (escapedIf escaped s) n → Shows f bullets write p out q out (escapedIf escaped s) (readOf (p .showing) escaped s)
+      → n ≡ cond (p .showing .escapes || escaped) (first .read) 0 → PassedBy write p q (escapedIf escaped s) n → Shows f bullets write p out q out (escapedIf escaped s) (readOf (p .showing) escaped s)
   shows-blank {q} d n b e k h =
       subst (λ (m : ℕ). Shows f bullets write p out q out (escapedIf escaped s) m) (read-whole (p .showing) escaped s d k (read-blank (p .showing) escaped s b e))
       (shows-nothing h (nothing-works f bullets (p .showing) (escapedIf escaped s) (none-shown (p .showing) escaped s b (omega (arith, e)))) (showing-blank (p .showing) escaped s b d n (omega (arith, e))))

@@ -17,7 +17,7 @@ use Rattle.html2text.specs.Showing.{showsAny, isSilent, showingAfter, leadIn, s
 use Rattle.html2text.specs.declared.Showing.{Showing}
 use Rattle.html2text.proofs.ShowingLaws as pieces
 use Rattle.html2text.proofs.ShowingLaws.{piece-silent, piece-shows, shown-in-pieces}
-use Rattle.serializer.specs.Progress.{ShowReady, Shows, Passed}
+use Rattle.serializer.specs.Progress.{ShowReady, Shows, PassedBy}
 use Rattle.serializer.specs.Serializing.{AbleOut, WorksOut}
 use Rattle.serializer.specs.declared.Progress.{Progress}
 use Rattle.serializer.specs.declared.Serializer.{Serializer}
@@ -108,7 +108,7 @@ module _ {f : Formatting} {bullets write : Bool} where
   ready-less n r = record { able = r .able; below = r .below; small = r .small; count = omega (arith, r .count) }
 
   -- a piece of which nothing is shown
-  pub shows-nothing : {p q : Progress} {out piece : Bytes} {n : ℕ} → Passed write p q piece n → WorksOut write (p .serializer) out (p .serializer) out (showPiece f bullets (p .showing) piece)
+  pub shows-nothing : {p q : Progress} {out piece : Bytes} {n : ℕ} → PassedBy write p q piece n → WorksOut write (p .serializer) out (p .serializer) out (showPiece f bullets (p .showing) piece)
       → p .showing ≡ showingAfter (p .showing) piece → Shows f bullets write p out q out piece n
   shows-nothing h works same = record { works = rw (h .serializer) works; showing = h .showing ∙ same; len = h .len; need = h .need; read-is = h .read-is }
 

@@ -74,7 +74,7 @@ module _ (f : Formatting) (bullets : Bool) (write : Bool) where
     pub read-is : p′ .read ≡ p .read + read
 
 -- a piece of which nothing is shown
-pub record Passed (write : Bool) (p p′ : Progress) (piece : Bytes) (read : ℕ) : Type 0 where
+pub record PassedBy (write : Bool) (p p′ : Progress) (piece : Bytes) (read : ℕ) : Type 0 where
   pub serializer : p′ .serializer ≡ p .serializer
   pub showing : p′ .showing ≡ p .showing
   pub len : write ≡ false → p′ .len ≡ p .len + length piece

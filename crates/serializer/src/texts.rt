@@ -22,7 +22,7 @@ ghost use Rattle.writer.specs.Out.{pushAll};
 ghost use Rattle.writer.specs.Shown.{escapedIf};
 ghost use Rattle.writer.specs.Texts.{BeginsAt};
 ghost use Rattle.writer.specs.Writing.{Does, Ready};
-ghost use Rattle.serializer.specs.Progress.{Passed, ShowReady, Shows, readOf, shownThen, showingBehind, timesOf};
+ghost use Rattle.serializer.specs.Progress.{PassedBy, ShowReady, Shows, readOf, shownThen, showingBehind, timesOf};
 ghost use Rattle.serializer.specs.Serializing.{AbleOut, WorksOut, prefixText};
 
 // `n.block || out.chars().last().is_some_and(is_space)`
@@ -176,7 +176,7 @@ fn longer(len: usize, piece: &[u8], escaped: bool, write: bool) -> usize
 fn pass_by(p: Progress, piece: &[u8], escaped: bool, read: usize, write: bool) -> Progress
     requires { ⌜ (write ≡ false → p .len + length (escapedIf escaped (now piece)) < lengthLimit) ⌝ }
     requires { ⌜ (p .read < lengthLimit) × (read ≤ length (now piece)) ⌝ }
-    ensures { λ r. ⌜ Passed write p r (escapedIf escaped (now (piece .entry))) read ⌝ }
+    ensures { λ r. ⌜ PassedBy write p r (escapedIf escaped (now (piece .entry))) read ⌝ }
 {
     let len = longer(p.len, piece, escaped, write);
     let need = writer::greater(p.need, len);
@@ -275,7 +275,7 @@ pub fn show(
     show_from(f, bullets, p, piece, first, escaped, out, write)
 }
 
-// Words of our own: they are no text of the sheet, and nothing of them counts as read.
+// Words of our own, which are no text of the sheet, or a text where nothing is escaped: nothing of them counts as read.
 pub fn say(
     f: Formatting,
     bullets: bool,

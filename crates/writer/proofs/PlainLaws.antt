@@ -4,7 +4,7 @@ use mathlib.Core.Bool.{Bool, true, false, cond}
 use mathlib.Core.List.{[], _∷_, _++_}
 use Prim.Native.Nat.{ℕ, zero, suc, _+_, _*_, _/_, _%_, _^_, _≤_, _<_}
 use native.Mathlib.Omega.{arith}
-use lib.Bits.{bitAnd, bitOr, bitXor, and-block, and-lt, xor-lt, mask-lt}
+use lib.Bits.{bitAnd, bitOr, bitXor, and-block, and-le-l, and-le-r, or-add-and, and-lt, xor-lt, mask-lt}
 use lib.Dec.{eqb, leb}
 use lib.ListN.{length, length-append}
 use lib.Seq.{append-snoc}
@@ -193,6 +193,21 @@ module _ (w : ℕ) (h : w < 0x10000000000000000) (space : Bool)
 
   plain-last : spaceAfter isSpace space (octets 8 w) ≡ eqb (lastOctet w) 0x20
   plain-last = rw (octets-are w h) (last-blank [] (w / 0x1000000000000 % 256) (w / 0x100000000000000) last)
+
+-- ---- several tests at once
+
+pub or-none : (a b : ℕ) → bitOr a b ≡ 0 → (a ≡ 0) × (b ≡ 0)
+or-none a b e = omega (arith, e, or-add-and a b, and-le-l a b, and-le-r a b)
+
+first-marked : (w : ℕ) → lanes mark 8 w % 256 ≡ 0 → w % 256 ≡ 0x20 → ⊥
+unfolding lanes
+first-marked w e f =
+    let m : mark (w % 256) ≡ 0x80 = rw f in
+    let d : lanes mark 8 w ≡ lanes mark 7 (w / 256) * 256 + mark (w % 256) = refl in
+    absurd (omega (arith, e, m, d))
+
+pub unmarked : {k : ℕ} (w : ℕ) (space : Bool) {m : ℕ} → m ≡ lanes mark 8 w → k ≡ cond space (m % 256) 0 → k ≡ 0 → space ≡ true → w % 256 ≡ 0x20 → ⊥
+unmarked w space m-is k-is z s = first-marked w (ap (λ (x : ℕ). x % 256) (sym m-is) ∙ sym (k-is ∙ rw s) ∙ z)
 
 -- ---- `Plain`
 

@@ -1,8 +1,8 @@
 // Eight bytes of a text as one number, the first the lowest, looked at together. Each test is made on all eight by carries that stay within
 // a byte: its highest bit says the answer.
-ghost use mathlib.Core.Bool.{true};
+ghost use mathlib.Core.Bool.{cond, true};
 ghost use mathlib.Core.Path.{_≡_};
-ghost use Prim.Native.Nat.{_+_, _≤_};
+ghost use Prim.Native.Nat.{_%_, _+_, _≤_};
 ghost use lib.ListN.{length};
 ghost use lib.Seq.{sets};
 ghost use Rattle.common.specs.Word.{octets};
@@ -10,12 +10,12 @@ ghost use Rattle.text.specs.Text.{escape};
 ghost use Rattle.writer.specs.Lanes.{Each, lanes, mark};
 ghost use Rattle.writer.specs.Plain.{Plain, lastOctet};
 
-// Whether no byte is below U+0020.
-fn is_printed(w: usize) -> bool
-    ensures { λ r. ⌜ (r ≡ true → Each (λ c. 0x20 ≤ c) (octets 8 w)) ⌝ }
+// 0 where no byte is below U+0020.
+fn controls(w: usize) -> usize
+    ensures { λ r. ⌜ (r ≡ 0 → Each (λ c. 0x20 ≤ c) (octets 8 w)) ⌝ }
 {
     let low = w & 0x7F7F7F7F7F7F7F7F;
-    ((low + 0x6060606060606060) | w) & 0x8080808080808080 == 0x8080808080808080
+    0x8080808080808080 - (((low + 0x6060606060606060) | w) & 0x8080808080808080)
 }
 
 // 0x80 in the place of each U+0020.
@@ -45,21 +45,23 @@ pub fn last_byte(w: usize) -> u8
     (w / 0x100000000000000) as u8
 }
 
-// Whether every blank is U+0020 and none stands behind another, with one before them where `space`.
+// The mark of the first byte, where a blank stands before it.
+fn first_mark(marks: usize, space: bool) -> usize
+    ensures { λ r. ⌜ r ≡ cond space (marks % 256) 0 ⌝ }
+{
+    if space {
+        return marks % 256;
+    }
+    0
+}
+
+// Whether every blank is U+0020 and none stands behind another, with one before them where `space`: one test, since which of them fails is
+// not foreseen.
 fn is_squeezed(w: usize, space: bool) -> bool
     ensures { λ r. ⌜ (r ≡ true → Plain true space 0 w) ⌝ }
 {
-    if !is_printed(w) {
-        return false;
-    }
     let m = spaces(w);
-    if m & (m / 256) != 0 {
-        return false;
-    }
-    if space {
-        return w % 256 != 32;
-    }
-    true
+    ((m & (m / 256)) | first_mark(m, space)) | controls(w) == 0
 }
 
 // Whether the eight bytes are shown as they are. It may say no of some that are: they take the longer way.

@@ -1,29 +1,28 @@
 -- `is_squeezed` meets its contract.
-use mathlib.Core.Path.{refl}
+use Prim.Native.Nat.{_/_}
+use lib.Bits.{bitAnd, bitOr}
 use native.Mathlib.Omega.{arith}
+use borrow.Author.Tests.{eqb-true}
+use Rattle.writer.proofs.PlainLaws.{plain-squeezed, or-none, unmarked}
 use borrow.Author.Needs.{needs}
-use borrow.Author.Tests.{eqb-false, not-true, not-false}
-use Rattle.common.proofs.Choice.{absurd-test}
-use Rattle.writer.proofs.PlainLaws.{plain-squeezed}
 use Rattle.writer.proofs.words.is_squeezed.Statement.{statement}
 use Rattle.writer.proofs.words.is_squeezed.Tie as tie
 
--- behind a blank
-returns-3 : tie.Need-returns-3
-returns-3 c = λ t.
-    plain-squeezed (omega arith)
-    (c .before .before .before .before .is-printed .ensures (not-false _ (c .before .before .before .if1 .left)))
-    (rw (c .before .before .spaces .ensures) at (c .before .if2 .left))
-    (λ s. eqb-false _ _ (not-true _ t))
-
-returns-4 : tie.Need-returns-4
-returns-4 c = λ t.
-    plain-squeezed (omega arith)
-    (c .before .before .before .before .is-printed .ensures (not-false _ (c .before .before .before .if1 .left)))
-    (rw (c .before .before .spaces .ensures) at (c .before .if2 .left))
-    (λ s. absurd-test s (c .if3 .left))
+returns : tie.Need-returns
+returns c = λ t.
+    let x = c .before .before in
+    let m = x .spaces .result in
+    let k = c .before .first-mark .result in
+    let p = or-none (bitOr (bitAnd m (m / 256)) k) (c .controls .result) (eqb-true _ 0 t) in
+    let q = or-none (bitAnd m (m / 256)) k (p .0) in
+    plain-squeezed (omega arith) (c .controls .ensures (p .1)) (rw (x .spaces .ensures) at (q .0))
+    (unmarked (x .before .args .w) (x .before .args .space) (x .spaces .ensures) (c .before .first-mark .ensures) (q .1))
 
 pub is-squeezed-spec : {M : Type 1} → statement M
 is-squeezed-spec =
     tie.close
-    (tie.spec (λ c κs. search needs) (λ c t. absurd-test t refl) (λ c κs. search needs) (λ c t. absurd-test t refl) returns-3 returns-4)
+    (tie.spec
+    (λ c κs. search needs)
+    (λ c κs. search needs)
+    (λ c κs. search needs)
+    returns)
