@@ -31,12 +31,12 @@ unsafe extern "C" {
 /// The older build; it is linked with BEFORE alone.
 const BEFORE: Option<Extract> = if option_env!("BEFORE").is_some() { Some(before_answer) } else { None };
 
-const BASIC: &str = "1011001100";
-const OFF: &str = "0011001100";
-const HTML: &str = "2011001100";
-const HTML_LINKS: &str = "2011101100";
-const HTML_LINKS_FORMS: &str = "2011111100";
-const MAIN_CONTENT: &str = "1111001100";
+const BASIC: &str = "10110011000";
+const OFF: &str = "00110011000";
+const HTML: &str = "20110011000";
+const HTML_LINKS: &str = "20111011000";
+const HTML_LINKS_FORMS: &str = "20111111000";
+const MAIN_CONTENT: &str = "11110011000";
 
 // ---- pages
 
@@ -485,8 +485,9 @@ fn made_pages() {
 /// The cases of a file, by their options.
 fn real_pages(bytes: &[u8]) {
     for options in [BASIC, OFF, HTML, HTML_LINKS_FORMS, MAIN_CONTENT] {
-        let cases = cases::unframed(bytes).into_iter().filter(|c| c[..10] == *options.as_bytes()).enumerate();
-        let mut pages: Vec<Page> = cases.map(|(i, c)| page_of(format!("page {}, {}", i + 1, options), options, c[11..].to_vec())).collect();
+        let cases = cases::unframed(bytes).into_iter().filter(|c| c[..options.len()] == *options.as_bytes()).enumerate();
+        let page = |(i, c): (usize, &[u8])| page_of(format!("page {}, {}", i + 1, options), options, c[cases::LINE..].to_vec());
+        let mut pages: Vec<Page> = cases.map(page).collect();
         if pages.is_empty() {
             continue;
         }

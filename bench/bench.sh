@@ -1,10 +1,11 @@
 #!/usr/bin/env bash
 # The times of the Rust and of the reader on the same pages, in one table.
-# Use: [BEFORE=ARCHIVE] [PACKAGES="PACKAGE .."] bench/bench.sh FOLDER-OF-html2text.rs-AND-filters.rs [REAL-PAGES]
+# Use: [BEFORE=ARCHIVE [TEN_DIGITS=1]] [PACKAGES="PACKAGE .."] bench/bench.sh FOLDER-OF-html2text.rs-AND-filters.rs [REAL-PAGES]
 # REAL-PAGES: so many pages of Debian's documentation packages too (oracle/pages.py; Debian's own python3 has html5lib); with PACKAGES so
 # many of each of these, and page N is line N of target/oracle/bench_pages.names.
 # The reader is target/staticlib/liblevzhada.a (rt staticlib levzhada); READER=stand-in takes the Rust behind the same C function.
-# BEFORE: an older liblevzhada.a, timed beside it; its answers and bytes must be the reader's.
+# BEFORE: an older liblevzhada.a, timed beside it; its answers and bytes must be the reader's. TEN_DIGITS=1: one before 0.4.0, whose option
+# lines have no missing_alt.
 set -eu
 sources=$(realpath "$1")
 [ -z "${BEFORE:-}" ] || BEFORE=$(realpath "$BEFORE")
@@ -26,7 +27,7 @@ if [ -n "${BEFORE:-}" ]; then
     # the names that the older archive and its driver define are changed, those of libc stay
     nm --defined-only --extern-only --format=posix "$BEFORE" | awk 'NF > 1 { print $1, "before_" $1 }' > "$made/before.names"
     printf '%s\n' 'reader_answer before_answer' 'reader_check before_check' >> "$made/before.names"
-    cc -O2 -Wall -DNO_MAIN -c -o "$made/before.o" oracle/driver.c
+    cc -O2 -Wall -DNO_MAIN ${TEN_DIGITS:+-DTEN_DIGITS} -c -o "$made/before.o" oracle/driver.c
     objcopy --redefine-syms="$made/before.names" "$made/before.o"
     # each function begins a cache line in both archives: without that the same code differs by up to a fifth
     objcopy --redefine-syms="$made/before.names" --set-section-alignment '.text.*=64' "$BEFORE" "$made/before.a"

@@ -9,10 +9,10 @@
 #include <string.h>
 #include <time.h>
 
-enum { NODES = 20000, ROUNDS = 101, LINE = 11, MOST_PAGES = 20000, HEADER = 33, NODE = 65 };
+enum { NODES = 20000, ROUNDS = 101, LINE = 12, MOST_PAGES = 20000, HEADER = 33, NODE = 65 };
 
-#define STANDING "1011001100\n"
-#define NO_ALT "1010001100\n"
+#define STANDING "10110011000\n"
+#define NO_ALT "10100011000\n"
 
 struct page {
     uint8_t *sheet, *before;
@@ -186,7 +186,7 @@ static void read_pages(const char *file, const char *options) {
     }
     fclose(f);
     free(room);
-    sprintf(name, "%zu pages, %.10s", count, options);
+    sprintf(name, "%zu pages, %.11s", count, options);
     if (count > 0)
         measure(name);
 }
@@ -201,7 +201,7 @@ int main(int argc, char **argv) {
     make_of("figcaption alone, alt_texts off", "figcaption", NO_ALT);
     make_of("blockquote alone", "blockquote", NO_ALT);
     if (argc > 1)
-        for (const char *line = "1011001100\n0011001100\n2011001100\n1111001100\n1100000000\n"; *line; line += LINE)
+        for (const char *line = "10110011000\n00110011000\n20110011000\n11110011000\n11000000000\n"; *line; line += LINE)
             read_pages(argv[1], line);
     return 0;
 }

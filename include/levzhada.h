@@ -19,9 +19,9 @@
 extern "C" {
 #endif
 
-#define LEVZHADA_VERSION "0.3.0"
+#define LEVZHADA_VERSION "0.4.0"
 #define LEVZHADA_VERSION_MAJOR 0
-#define LEVZHADA_VERSION_MINOR 3
+#define LEVZHADA_VERSION_MINOR 4
 #define LEVZHADA_VERSION_PATCH 0
 
 /* The numbers, and what the second number is with each. The header is line 0, row 0 line 1. */
@@ -111,9 +111,10 @@ levzhada_link_measure levzhada_measure(const uint8_t *sheet, size_t sheet_length
  * that is not there. */
 levzhada_answer levzhada_matches(size_t pattern, const uint8_t *text, size_t text_length);
 
-/* The text of a page. options is the option line: ten digits, the first for the formatting (0 Off, 1 Basic, 2 MinimalHtml), then 0
- * or 1 each for main_content, list_bullets, alt_texts, links, form_fields, comments, post_meta, hidden_elements and icons, and LF;
- * bytes behind it are not looked at. "1011001100\n" has the standing options.
+/* The text of a page. options is the option line: eleven digits, the first for the formatting (0 Off, 1 Basic, 2 MinimalHtml), then 0
+ * or 1 each for main_content, list_bullets, alt_texts, links, form_fields, comments, post_meta, hidden_elements, icons and missing_alt,
+ * and LF; bytes behind it are not looked at. "10110011000\n" has the standing options.
+ * With alt_texts and missing_alt an img or area that has no attribute alt is written as one with alt="[picture]"; an empty alt is there.
  * Refused, in this order: 33, the option line is wrong; 11 to 17, the sheet; 21 and 22 with the node's line, list levels or open
  * rows pass 1,024; 31 and then 32 with the need, work or out too short.
  * After a text out holds length bytes of it and zeros behind them, and work is all zero. After a refusal both are unchanged, but

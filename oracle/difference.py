@@ -40,8 +40,8 @@ def differ(case, rust, reader):
 
 class Rows:
     def __init__(self, case):
-        self.options = case[:10]
-        p = reference.Page(case[11:])
+        self.options = case[:reference.LINE - 1]
+        p = reference.Page(case[reference.LINE:])
         kinds = {reference.ELEMENT: 1, reference.TEXT: 3, reference.COMMENT: 8}
         self.root = p.root
         self.rows = [[d, kinds[n.kind], int(m), n.name if n.kind == reference.ELEMENT else b"", n.value, list(n.attributes)]
@@ -103,7 +103,7 @@ class Rows:
                 other = self.copy()
                 other.rows[i][2] = 0
                 yield other
-        for k, (digit, standing) in enumerate(zip(self.options, b"1011001100")):
+        for k, (digit, standing) in enumerate(zip(self.options, b"10110011000")):
             if digit != standing:
                 other = self.copy()
                 other.options = self.options[:k] + bytes([standing]) + self.options[k + 1:]
@@ -124,8 +124,8 @@ class Rows:
                     yield other
 
     def __str__(self):
-        lines = ["options %s (formatting main_content list_bullets alt_texts links form_fields comments post_meta hidden_elements icons), root row %d"
-                 % (self.options.decode(), self.root)]
+        names = "formatting main_content list_bullets alt_texts links form_fields comments post_meta hidden_elements icons missing_alt"
+        lines = ["options %s (%s), root row %d" % (self.options.decode(), names, self.root)]
         for i, (depth, kind, skip, name, value, attrs) in enumerate(self.rows):
             shown = {1: "<%s%s>" % (name.decode(), "".join(" %s=%r" % (n.decode(), v.decode()) for n, v in attrs)), 3: repr(value.decode()), 8: "<!--%s-->" % value.decode()}[kind]
             lines.append("%4d %s%s%s" % (i, "  " * depth, shown, " (marked)" if skip else ""))
@@ -163,6 +163,13 @@ def shrunk(rows, rust, reader):
             return rows
 
 
+def write(case, to):
+    with open(to, "wb") as f:
+        f.write(b"%8d\n" % len(case) + case)
+    print("the case stands in %s" % to)
+    sys.exit(1)
+
+
 def main():
     files, (rust, reader, to) = sys.argv[1:4], sys.argv[4:7]
     cases, by_rust, by_reader = (f(open(name, "rb").read()) for f, name in zip((split_cases, split_answers, split_answers), files))
@@ -173,6 +180,9 @@ def main():
         if not differ(c, a, b):
             continue
         print("case %d of %s differs" % (i, files[0]))
+        if {int(a[:8]), int(b[:8])} & set(range(11, 18)):
+            print("of a wrong sheet: %s, %s" % (a[:32].decode(), b[:32].decode()))
+            write(c, to)
         rows = Rows(c)
         small = rows.case()
         if differ(small, answers_of(rust, [small])[0], answers_of(reader, [small])[0]):
@@ -184,10 +194,7 @@ def main():
         print(rows)
         for name, said in (("Rust:  ", a), ("reader:", b)):
             print("the %s %s %r" % (name, said[:32].decode(), said[33:-1].decode("utf-8", "replace")))
-        with open(to, "wb") as f:
-            f.write(b"%8d\n" % len(c) + c)
-        print("the case stands in %s" % to)
-        sys.exit(1)
+        write(c, to)
 
 
 if __name__ == "__main__":

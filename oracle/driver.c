@@ -1,7 +1,8 @@
 /* Runs the reader on the cases of standard input (oracle/rust/src/cases.rs has their form) and prints its answers as
    document 01's program does. It begins with short buffers and lends what 31 and 32 say is needed, so that these needs are tried
    too, and it looks at both buffers after each call.
-   driver --needs: for each case the answers without buffers, then with the work that was needed and no out. */
+   driver --needs: for each case the answers without buffers, then with the work that was needed and no out.
+   Built with TEN_DIGITS it is for an archive before 0.4.0, whose option lines have no missing_alt. */
 #include <inttypes.h>
 #include <stdio.h>
 #include <stdlib.h>
@@ -10,6 +11,8 @@
 struct answer {
     uint64_t number, second, visits, length;
 };
+
+enum { LINE = 12 };
 
 /* ---- the one place that knows the reader's C functions; stand_in_extract is the Rust behind such a function */
 #ifdef STAND_IN
@@ -23,10 +26,17 @@ struct answer reader_answer(const uint8_t *options, const uint8_t *sheet, size_t
                             size_t work_len) {
 #ifdef STAND_IN
     uint64_t said[4] = {0};
-    stand_in_extract(sheet, len, options, 11, out, out_len, work, work_len, said, 4);
+    stand_in_extract(sheet, len, options, LINE, out, out_len, work, work_len, said, 4);
     return (struct answer){said[0], said[1], said[2], said[3]};
 #else
-    levzhada_answer a = levzhada_extract(sheet, len, options, 11, out, out_len, work, work_len);
+#ifdef TEN_DIGITS
+    uint8_t line[LINE - 1];
+    memcpy(line, options, LINE - 2);
+    line[LINE - 2] = '\n';
+    levzhada_answer a = levzhada_extract(sheet, len, line, LINE - 1, out, out_len, work, work_len);
+#else
+    levzhada_answer a = levzhada_extract(sheet, len, options, LINE, out, out_len, work, work_len);
+#endif
     return (struct answer){a.number, a.second, a.visits, a.length};
 #endif
 }
@@ -79,7 +89,7 @@ static void resize(struct buffer *b, size_t len) {
 static struct answer call(size_t n, const uint8_t *c, size_t len, struct buffer *out, struct buffer *work) {
     memset(out->at, FILL, out->len);
     memset(work->at, FILL, work->len);
-    struct answer a = reader_answer(c, c + 11, len - 11, out->at, out->len, work->at, work->len);
+    struct answer a = reader_answer(c, c + LINE, len - LINE, out->at, out->len, work->at, work->len);
     if (a.number == 0 && (a.length > out->len || !all(out->at, a.length, out->len, 0)))
         fail(n, "out behind the text is not zero");
     if (a.number != 0 && !all(out->at, 0, out->len, FILL))
@@ -103,7 +113,7 @@ int main(int argc, char **argv) {
     char head[10] = {0};
     for (size_t n = 0; fread(head, 1, 9, stdin) == 9; n++) {
         resize(&in, strtoul(head, 0, 10));
-        if (in.len < 11 || fread(in.at, 1, in.len, stdin) != in.len)
+        if (in.len < LINE || fread(in.at, 1, in.len, stdin) != in.len)
             fail(n, "the case is cut short");
         size_t first = needs ? 0 : 256;
         resize(&out, first);

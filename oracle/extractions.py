@@ -85,8 +85,10 @@ def main():
         answer, by_reference = reference.extraction(p, o, 5000, 5000)
         assert by_reference == text.encode()
         call(options, plain(sheet), 5000, 5000, answer, text.encode())
-    for options, markup, _ in pages.DOCUMENT + pages.PRIVATE + pages.QUIRKS:
+    for options, markup, _ in pages.DOCUMENT + pages.PRIVATE + pages.MISSING + pages.QUIRKS:
         around(options, plain(pages.written(markup)))
+    # the word for a missing alt counts in both needs
+    assert needs(pages.PICTURES, pages.written("<img/>")) == (9, 9) and needs(pages.STANDING, pages.written("<img/>")) == (0, 0)
     # 21: the level of a childless list stays up; 22: a childless row stays open. Off counts no list level.
     for name in (b"ul", b"ol", b"li", b"tr"):
         pool = b"body" + name + b"x"

@@ -10,7 +10,7 @@
 #include <stdlib.h>
 #include <string.h>
 
-enum { LINE = 11, EDGE = 64, FILL = 0xA5, HEADER = 33, NODE = 65, COLUMNS = 8 };
+enum { LINE = 12, EDGE = 64, FILL = 0xA5, HEADER = 33, NODE = 65, COLUMNS = 8 };
 
 static size_t n;
 

@@ -150,15 +150,17 @@ class Sheet:
         return shown(self.pool, self.nodes[i][NAME_AT], self.nodes[i][NAME_LENGTH])
 
 
-# ---- docs/SHEET.md, "The options": ten digits and LF
+# ---- docs/SHEET.md, "The options": eleven digits and LF
 
+DIGITS = 11
 ALT_TEXTS, FORM_FIELDS = 3, 5
 
 
 def options_of(line):
-    if len(line) < 11 or line[10:11] != b"\n" or line[0:1] not in (b"0", b"1", b"2") or any(c not in b"01" for c in line[1:10]):
+    flags = line[1:DIGITS]
+    if line[DIGITS:DIGITS + 1] != b"\n" or line[0:1] not in (b"0", b"1", b"2") or any(c not in b"01" for c in flags):
         raise Refused(33, 0)
-    return line[:10]
+    return line[:DIGITS]
 
 
 # ---- change request 1: "the fixed lists that `extract_plain_text` uses under these options"
@@ -223,11 +225,11 @@ def unframed(f):
 
 # ---- sheets
 
-STANDING = b"1011001100\n"
-OFF = b"0011001100\n"
-NO_ALT = b"1010001100\n"
-FIELDS = b"1011011100\n"
-NO_ALT_BUT_FIELDS = b"1010011100\n"
+STANDING = b"10110011000\n"
+OFF = b"00110011000\n"
+NO_ALT = b"10100011000\n"
+FIELDS = b"10110111000\n"
+NO_ALT_BUT_FIELDS = b"10100111000\n"
 LINES = [STANDING, NO_ALT, FIELDS, NO_ALT_BUT_FIELDS]
 
 
@@ -325,7 +327,7 @@ def vectors():
             yield line, noscript, names_page(NAMES, 1)
     # the other options mark nothing, nor take a mark away
     small = written([BODY, element(1, b"script"), element(1, b"img"), element(1, b"p"), element(1, b"noscript")])
-    for k in range(10):
+    for k in range(DIGITS):
         for c in b"0", b"1", b"2":
             yield STANDING[:k] + c + STANDING[k + 1:], 0, small
     # option lines that are wrong, of every length; what stands behind the line end is no part of it; 33 comes before the sheet's numbers
@@ -335,6 +337,8 @@ def vectors():
         for c in b"3", b"/", b" ", b"\n", b"\0", b"\xff":
             if STANDING[k:k + 1] != c:
                 yield STANDING[:k] + c + STANDING[k + 1:], 0, small
+    for line in (STANDING[:10] + b"\n", STANDING[:11] + b"0\n"):
+        yield line, 0, small
     for more in (b"0", b"\n", b"x" * 50, small):
         yield STANDING + more, 1, small
     for sheet in (b"", small[:-1], b"x" * 40):
@@ -415,12 +419,12 @@ def any_name(r):
 
 
 def any_line(r):
-    line = bytearray(b"%d" % r.randrange(3) + b"".join(b"%d" % r.randrange(2) for _ in range(9)) + b"\n")
+    line = bytearray(b"%d" % r.randrange(3) + b"".join(b"%d" % r.randrange(2) for _ in range(DIGITS - 1)) + b"\n")
     k = r.random()
     if k < 0.03:
-        line[r.randrange(11)] = r.choice(b"0123 \n\0/:\xff")
+        line[r.randrange(len(line))] = r.choice(b"0123 \n\0/:\xff")
     elif k < 0.05:
-        del line[r.randrange(12):]
+        del line[r.randrange(len(line) + 1):]
     elif k < 0.10:
         line += r.choice([b"0", b"\n", b"abc", bytes(line)])
     return bytes(line)
@@ -558,9 +562,9 @@ def cases_of(f):
 
 
 def unmarked(case):
-    s = bytearray(case)
-    for i in range(int(s[11:19])):
-        at = 11 + Sheet.node_at(i) + COLUMNS * SKIP
+    s, line = bytearray(case), DIGITS + 1
+    for i in range(int(s[line:line + COLUMNS])):
+        at = line + Sheet.node_at(i) + COLUMNS * SKIP
         s[at:at + COLUMNS] = b"%8d" % 0
     return b"%8d\n" % len(s) + bytes(s)
 

@@ -3,7 +3,7 @@
 pages.py worked > cases: document 01's pages, and those that show a quirk of the Rust.
 pages.py long > cases: pages that need 16,384 bytes of work or of out, one less and one more.
 pages.py check < answers: whether the answers to these cases have the texts that document 01 and the list below give. Answers of
-the Rust to a page with icons 1 (33) are passed over.
+the Rust to a page with icons 1 or missing_alt 1 (33) are passed over.
 pages.py real COUNT > cases: pages of Debian's documentation packages, read by html5lib (Debian's python3-html5lib), each under
 several option lines. Packages used: python3.11-doc apache2-doc sqlite3-doc postgresql-doc-15 python-django-doc
 developers-reference debian-reference-en debian-faq git-doc, and what else is in /usr/share/doc.
@@ -69,11 +69,12 @@ def written(markup):
     return sheet(rows, root)
 
 
-STANDING = "1011001100"
-OFF = "0011001100"
-HTML = "2011001100"
-MAIN = "1111001100"
-ICONS = "1111001101"
+STANDING = "10110011000"
+OFF = "00110011000"
+HTML = "20110011000"
+MAIN = "11110011000"
+ICONS = "11110011010"
+PICTURES = "10110011001"
 
 
 def linked(total, links):
@@ -93,7 +94,7 @@ DOCUMENT = [
     (OFF, "<tr><td>1</td><td>2</td></tr>", "1 2"),
     (STANDING, "<tr><td>1</td>x</tr>", "1"),
     (STANDING, "a<br/><br/>b", "a\n\nb"),
-    ("1011101100", '<a href=" u ">t</a>', "t (u)"),
+    ("10111011000", '<a href=" u ">t</a>', "t (u)"),
     (HTML, "<p>a&b</p>", "<p>a&amp;b</p>"),
     (MAIN, "<td>−<b>0.4</b></td>", "0.4"),
     (ICONS, "<td>−<b>0.4</b></td>", "−0.4"),
@@ -122,17 +123,72 @@ PRIVATE += [
     (MAIN, "<td>\U000F0000<b>0.4</b></td>", "\U000F00000.4"),
 ]
 
+# document 02, request 4: an img or area without alt under missing_alt
+MISSING = [
+    (PICTURES, "<img/>", "[picture]"),
+    (PICTURES, "a<img/>b", "a[picture]b"),
+    (PICTURES, "a<area/>b", "a[picture]b"),
+    (PICTURES, "<!img/>", "[picture]"),
+    # one with children is written twice, two are written beside each other
+    (PICTURES, "<img>c</img>", "[picture]c[picture]"),
+    (PICTURES, "<area> </area>", "[picture] [picture]"),
+    (PICTURES, "<img/><area/>", "[picture][picture]"),
+    (PICTURES, '<img alt="i"/><img/><area alt="j"/>', "i[picture]j"),
+    # an empty or blank alt is there, and the first of two counts
+    (PICTURES, 'a<img alt=""/>b', "ab"),
+    (PICTURES, 'a<area alt="">c</area>b', "acb"),
+    (PICTURES, 'a<img alt=" "/>b', "a b"),
+    (PICTURES, 'a<area alt="\t\n"/>b', "a b"),
+    (PICTURES, 'a<img alt="" alt="i"/>b', "ab"),
+    # names are compared byte for byte
+    (PICTURES, 'a<img ALT="i"/>b', "a[picture]b"),
+    (PICTURES, 'a<img ALT="i" alt=""/>b', "ab"),
+    (PICTURES, 'a<area al="i" alts="j" title="k" src="l"/>b', "a[picture]b"),
+    (PICTURES, 'a<IMG/><Area/><image/><svg/><object/><input/><b alt="i"/>b', "ab"),
+    # either option off
+    (STANDING, "a<img/>b<area>c</area>", "abc"),
+    ("10100011001", "a<img/>b<area>c</area>", "abc"),
+    ("10100011001", 'a<img alt="i"/>b', "ab"),
+    # a row that is left out, and what is lost behind a cell
+    (PICTURES, "a<*img/>b", "ab"),
+    (PICTURES, "a<*p><img/></p>b", "ab"),
+    (PICTURES, "<tr><td>1</td><img/></tr>", "1"),
+    ("00110011001", "<tr><td>1</td><img/></tr>", "1"),
+    (PICTURES, "<tr><td><img/></td><td><area/></td></tr>", "[picture]\t\t[picture]"),
+    # in lists, in pre, between blanks, behind a br
+    (PICTURES, "<ul><li><img/></li></ul>", "  • [picture]"),
+    (PICTURES, "<ol><li><img/></li><li>b</li></ol>", "  1. [picture]\n  2. b"),
+    (PICTURES, "<pre> <img/>  x</pre>", " [picture]  x"),
+    (PICTURES, "<p> <img/> </p>b", "[picture]\n\nb"),
+    (PICTURES, "a<br/><img/>", "a\n[picture]"),
+    # in links and fields
+    ("10111011001", '<a href="u"><img/></a>', "[picture] (u)"),
+    ("10111011001", "<a><img/></a>", "[picture] ()"),
+    ("10111011001", '<img><a href="u">t</a></img>', "[picture]t (u)[picture]"),
+    ("20111011001", '<p><a href="u"><img/></a></p>', '<p><a href="u">[picture]</a></p>'),
+    ("20110011001", '<p><a href="u"><img/>&</a></p>', "<p>[picture]&amp;</p>"),
+    ("10110111001", "<button><img/></button><input/>", "[ [picture] ]"),
+    # nothing of it is escaped
+    ("20110011001", "&<img/><area>c</area>", "&amp;[picture][picture]c[picture]"),
+    ("20110011001", "<pre><img/></pre>", "<pre>[picture]</pre>"),
+    ("00110011001", "a <img/> <area/>b", "a [picture] [picture]b"),
+    # with main_content, and with icons too
+    ("11110011001", "a<img/>b<nav><img/></nav>", "a[picture]b"),
+    ("11110011011", "\uE000<img/>−", "[picture]−"),
+    ("11110011001", "\uE000<img/>−", "[picture]"),
+]
+
 # quirks of the Rust, and the false friends
 QUIRKS = [
     (STANDING, "a<pre/>  b  c<p>d  e</p>", "a\n  b  c\nd  e"),
     (STANDING, "<tr/><td>1</td><td>2</td>", "1\t\t2"),
     (HTML, "<!a>a&b</a>", "a&amp;amp;b"),
-    ("2011101100", '<a href="u"><img alt="&lt;b&gt;&"/></a>', '<a href="u"><b>&</a>'),
+    ("20111011000", '<a href="u"><img alt="&lt;b&gt;&"/></a>', '<a href="u"><b>&</a>'),
     (OFF, "<span><td>1</td></span>x", "1x"),
     (OFF, "<tr><td/>x</tr>", "x"),
     (OFF, '<tr><td>1</td><a href="u">t</a></tr>', "1"),
-    ("0011101100", '<tr><td>1</td><a href="u">t</a></tr>', "1t (u)"),
-    ("0011101100", "<a>t</a>", "t ()"),
+    ("00111011000", '<tr><td>1</td><a href="u">t</a></tr>', "1t (u)"),
+    ("00111011000", "<a>t</a>", "t ()"),
     # the level of a lone li stays up, that of a childless ul too
     (STANDING, "<li>a</li>b", "  • a\n    • b"),
     # blanks in front of a text are trimmed where out ends in a blank before its margin is written
@@ -147,8 +203,8 @@ QUIRKS = [
     (STANDING, "a<*p>b</p><!-- c -->d", "ad"),
     # an img, area or input with children is written twice
     (OFF, '<img alt="i">x</img>', "ixi"),
-    ("0011011100", '<input value=" v ">x</input>', "[ v ] x[ v ]"),
-    ("0011011100", '<input type="radio" value="v"/><input placeholder="p"/><textarea>t</textarea><button/>', "[ p ] [ t ] [ ".rstrip()),
+    ("00110111000", '<input value=" v ">x</input>', "[ v ] x[ v ]"),
+    ("00110111000", '<input type="radio" value="v"/><input placeholder="p"/><textarea>t</textarea><button/>', "[ p ] [ t ] [ ".rstrip()),
     # no blank between two cells where nothing stands yet
     (OFF, "<tr><td/><td>x</td></tr>", "x"),
     # the first attribute of a name counts
@@ -167,7 +223,7 @@ QUIRKS = [
 ]
 
 # quirks of filters.rs, with main_content: which rows it drops (docs/DIFFERENCES.md says why); two divs put a row at depth 3
-NO_META = "1111001000"
+NO_META = "11110010000"
 FILTERS = [
     (MAIN, '<div class="l-modal">t</div>', "t"),
     (MAIN, '<div class="-lmodal">t</div>', ""),
@@ -199,29 +255,38 @@ FILTERS = [
     (MAIN, "<ul><li>t</li></ul>", ""),
     (MAIN, "<ol><li>t</li></ol>", "  1. t"),
 ]
-WORKED = DOCUMENT + PRIVATE + QUIRKS + FILTERS
+WORKED = DOCUMENT + PRIVATE + MISSING + QUIRKS + FILTERS
 
 
 def long_pages():
     """Pages whose need of work or of out is 16,384 bytes, one less or one more; their rows show one range many times."""
 
-    def shown(names, total):
-        rows, at = [[0, ELEMENT, False, "body", "", []]], 0
+    element = lambda depth, name: [depth, ELEMENT, False, name, "", []]
+    text = lambda depth, value: [depth, TEXT, False, "", value, []]
+
+    def page(options, names, total, picture, before=()):
+        rows, first = [element(0, "body"), *before], 2 if before else 1
+        # the last row may be an img without alt, whose word counts as a text does
+        at, total = 0, total - len("[picture]") * picture
         while at < total:
             part = min(200, total - at)
-            for depth, name in enumerate(names, 1):
-                rows.append([depth, ELEMENT, False, name, "", []])
-            rows.append([len(names) + 1, TEXT, False, "", "x" * part, []])
+            rows += [element(depth, name) for depth, name in enumerate(names, first)]
+            rows.append(text(first + len(names), "x" * part))
             at += part
-        return sheet(rows)
+        if picture:
+            rows.append(element(first + len(names), "img"))
+        return b"%s%d\n" % (options[:-1].encode(), picture) + sheet(rows)
 
     for total in (16383, 16384, 16385, 20000):
-        # one entry
-        yield STANDING.encode() + b"\n" + shown([], total)
-        # entries of 200 bytes, and a blank or LF between two
-        separate = (total + 1) // 201
-        yield OFF.encode() + b"\n" + shown(["p"], total - separate)
-        yield STANDING.encode() + b"\n" + shown(["div"], total - separate)
+        for picture in (False, True):
+            # one entry
+            yield page(STANDING, [], total, picture)
+            # entries of 200 bytes, and a blank or LF between two
+            separate = (total + 1) // 201
+            yield page(OFF, ["p"], total - separate, picture)
+            yield page(STANDING, ["div"], total - separate, picture)
+            # one entry that is lost behind a cell
+            yield page(STANDING, [], total, picture, [element(1, "tr"), element(2, "td"), text(3, "1")])
 
 
 def worked(out):
@@ -234,7 +299,7 @@ def check(answers):
     for options, markup, text in WORKED:
         number, _, _, length = (int(answers.read(8)) for _ in range(4))
         answers.read(1)
-        if number == 33 and options[9] == "1":
+        if number == 33 and "1" in options[9:]:
             continue
         said = answers.read(length + 1)[:-1].decode() if number == 0 else number
         if said != text:
@@ -293,7 +358,8 @@ def marked(rows, options):
     return [r[:2] + [i > 0 and r[3] in names] + r[3:] for i, r in enumerate(rows)]
 
 
-LINES = [STANDING, OFF, HTML, MAIN, "0111001100", "2111001100", "1011111100", "2011111100", "0011111100", "1100000000", "1111111110", "2110110000", "0001110000", "1110000010"]
+LINES = [STANDING, OFF, HTML, MAIN, "01110011000", "21110011000", "10111111000", "20111111000", "00111111000", "11000000000"]
+LINES += ["11111111100", "21101100000", "00011100000", "11100000100"]
 
 
 def parsed(name):
@@ -353,7 +419,7 @@ def packages(each, names, out):
             for name in files[k * len(files) // each : (k + 1) * len(files) // each]:
                 rows = parsed(name)
                 if whole(rows):
-                    for options in [STANDING, OFF, HTML, "2011111100", MAIN]:
+                    for options in [STANDING, OFF, HTML, "20111111000", MAIN]:
                         out.write(case_of(rows, options))
                     print(name, file=sys.stderr)
                     break

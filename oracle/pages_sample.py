@@ -75,6 +75,11 @@ def event_met(o, nodes, e):
         for name in ("href", "alt", "value", "placeholder", "type"):
             value = reference.attribute(e.node.attributes, name.encode())
             yield "attribute", o.formatting, t, e.end, name, value is None, value is not None and text_class(value)
+    if o.missing_alt and t in (39, 40):
+        alt, last = reference.attribute(e.node.attributes, b"alt"), nodes[-1].node if nodes else None
+        yield "missing alt", o.formatting, o.alt_texts, t, e.end, e.children, alt is None or text_class(alt)
+        if o.alt_texts and alt is None:
+            yield "missing alt", o.formatting, o.links, last and (last.tag, last.end, last.pre_depth > 0)
 
 
 def cluster_met(said, p, rule, i):
@@ -132,7 +137,7 @@ NAMES = set(reference.TAG_NAMES) | set(b"th body audio video time span".split())
 def met_by_definitions(case):
     MET.clear()
     answer = reference.answer(case, MOST, MOST)
-    p, o = reference.Page(case[11:]), reference.Options(case)
+    p, o = reference.Page(case[reference.LINE:]), reference.Options(case)
     MET.add(("answer", int(answer[:8])))
     MET.add(("line", case[:9]))
     MET.add(("root", p.root > 0, p.marked[p.root], o.main_content, any(p.marked), reference.is_body(p.node[p.root])))
@@ -140,11 +145,11 @@ def met_by_definitions(case):
 
 
 def agreed(sample, by_rust, answers):
-    """The Rust and the definitions say the same of every case, but for icons 1, which the Rust has not, and 31 and 32."""
+    """The Rust and the definitions say the same of every case, but for icons 1 and missing_alt 1, which the Rust has not, and 31 and 32."""
     cases, rust, said = (f(open(name, "rb").read()) for f, name in zip((difference.split_cases,) + (difference.split_answers,) * 2, (sample, by_rust, answers)))
     same = 0
     for c, a, b in zip(cases, rust, said):
-        if int(a[:8]) == 33 and c[9:10] == b"1" or int(b[:8]) in (31, 32):
+        if int(a[:8]) == 33 and b"1" in c[9:11] or int(b[:8]) in (31, 32):
             continue
         if a != b:
             sys.exit("the Rust and the definitions differ on %r: %r, %r" % (c, a, b))
@@ -156,12 +161,15 @@ def agreed(sample, by_rust, answers):
 def inputs():
     """Inputs with a wrong option line, and two of the greatest length that the program takes."""
     right = pages.STANDING.encode() + b"\n"
-    for at in range(11):
+    for at in range(12):
         yield right[:at]
-    sheet = pages.written("<p>a</p>")
-    for at in range(11):
-        for byte in b"/:" + (b"13" if at == 0 else b"12" if at < 10 else b"\r "):
+    sheet = pages.written("<p>a</p><img/>")
+    for at in range(12):
+        for byte in b"/:" + (b"13" if at == 0 else b"12" if at < 11 else b"\r "):
             yield right[:at] + bytes([byte]) + right[at + 1:] + sheet
+    # ten digits, with the sheet behind its LF or behind another byte, and twelve
+    for line in (right[:10] + b"\n", right[:10] + b"\n0", right[:10] + b"\n\n", right[:11] + b"0\n"):
+        yield line + sheet
     yield b"0" * MOST
     text = b"a" * (MOST - len(right) - 33 - 65 * 2 - 4)
     yield right + b"%8d%8d%8d%8d\n" % (2, 0, 4 + len(text), 0) + b"%8d" * 8 % (0, 1, 0, 0, 4, 0, 0, 0) + b"\n" + b"%8d" * 8 % (1, 3, 0, 0, 0, 4, len(text), 0) + b"\nbody" + text
@@ -182,7 +190,8 @@ def main():
     cases = difference.split_cases(open(candidates, "rb").read())
     program = coverage.Program(program)
     watch()
-    always = set(difference.split_cases(b"".join(pages.framed(o, pages.written(m)) for o, m, _ in pages.DOCUMENT + pages.PRIVATE + pages.QUIRKS)))
+    shown = pages.DOCUMENT + pages.PRIVATE + pages.MISSING + pages.QUIRKS
+    always = set(difference.split_cases(b"".join(pages.framed(o, pages.written(m)) for o, m, _ in shown)))
     always |= set(pages.long_pages())
     found = []
     for case, moved in zip(cases, coverage.read_counts(open(counts, "rb").read())):
@@ -200,16 +209,17 @@ def main():
                 seen[m] = seen.get(m, 0) + 1
             chosen.append(case)
             size += len(case) + 9
-    # the same pages with icons 1, where a text is judged in a way not met yet
-    for _, length, case, _ in found:
-        if length <= 600 and case[1:2] == b"1" and case[9:10] == b"0":
-            private = case[:9] + b"1" + case[10:]
-            _, met = met_by_definitions(private)
-            if any(m not in seen for m in met if m[0] in ("icon", "bytes")):
-                for m in met:
-                    seen[m] = seen.get(m, 0) + 1
-                chosen.append(private)
-                size += len(private) + 9
+    # the same pages with icons 1, where a text is judged in a way not met yet, and with missing_alt 1, where an alt is read in such a way
+    for at, kinds in ((9, ("icon", "bytes")), (10, ("missing alt",))):
+        for _, length, case, _ in found:
+            if length <= 600 and (at == 10 or case[1:2] == b"1") and case[9:11] == b"00":
+                other = case[:at] + b"1" + case[at + 1:]
+                _, met = met_by_definitions(other)
+                if any(m not in seen for m in met if m[0] in kinds):
+                    for m in met:
+                        seen[m] = seen.get(m, 0) + 1
+                    chosen.append(other)
+                    size += len(other) + 9
     print("%d of %d cases, %d bytes, %d things met" % (len(chosen), len(cases), size, len(seen)))
     with open(sample, "wb") as f:
         for case in chosen:

@@ -3,7 +3,7 @@
 # sheet can reach, and the Rust's answers. A case is its length in 8 columns, LF, an option line and a sheet; an answer is what
 # document 01's program prints, its out and work having 16,384 bytes.
 # Use: oracle/pages_sample.sh FOLDER-OF-html2text.rs-AND-filters.rs [CANDIDATES]      (30000)
-# The Rust has no icons 1 and no 31 or 32: there the answer is oracle/reference.py's.
+# The Rust has no icons 1, no missing_alt 1 and no 31 or 32: there the answer is oracle/reference.py's.
 set -eu
 sources=$(realpath "$1")
 count=${2:-30000}

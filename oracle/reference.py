@@ -118,16 +118,18 @@ is_button = lambda t: t == 41
 is_input = lambda t: t == 42
 
 
-# ---- crates/options/specs/Options.antt
+# ---- crates/options/specs/{Options,Line}.antt
 
 OFF, BASIC, MINIMAL_HTML = 0, 1, 2
+# the digits and LF
+LINE = 12
 
 
 class Options:
     def __init__(self, line):
-        digits = [b - 48 for b in line[:10]]
+        digits = [b - 48 for b in line[:LINE - 1]]
         self.formatting = digits[0]
-        names = "main_content list_bullets alt_texts links form_fields comments post_meta hidden_elements icons".split()
+        names = "main_content list_bullets alt_texts links form_fields comments post_meta hidden_elements icons missing_alt".split()
         for name, digit in zip(names, digits[1:]):
             setattr(self, name, digit == 1)
 
@@ -146,6 +148,7 @@ def tag(n):
     return n.name if n.kind == ELEMENT else b""
 
 
+# the first of that name; None where it is absent, which is not an empty one
 def attribute(attributes, name):
     for a, value in attributes:
         if a == name:
@@ -153,9 +156,17 @@ def attribute(attributes, name):
     return None
 
 
+def is_there(value):
+    return value is not None
+
+
+# for a caller that does not ask whether it is there
+def or_empty(value):
+    return value if is_there(value) else b""
+
+
 def attribute_or_empty(attributes, name):
-    value = attribute(attributes, name)
-    return b"" if value is None else value
+    return or_empty(attribute(attributes, name))
 
 
 class Page:
@@ -376,7 +387,7 @@ def followed(p, i):
 
 
 def has_attr(attributes, name):
-    return attribute(attributes, name.encode()) is not None
+    return is_there(attribute(attributes, name.encode()))
 
 
 def attr_of(attributes, name):
@@ -542,6 +553,7 @@ def tag_number(n):
     return tag_of(tag(n))
 
 
+# an absent one reads as empty
 def attr(n, name):
     return attribute_or_empty(n.attributes, name.encode())
 
@@ -602,6 +614,16 @@ def field_value(n):
     return attr(n, "placeholder") if trim(attr(n, "value")) == b"" else attr(n, "value")
 
 
+# what stands for an alt that is absent
+def missing_alt(on):
+    return b"[picture]" if on else b""
+
+
+def alt_text(o, n):
+    alt = attribute(n.attributes, b"alt")
+    return alt if is_there(alt) else missing_alt(o.missing_alt)
+
+
 def added_by_element(o, n, end):
     t = tag_number(n)
     if is_break(o, t):
@@ -609,7 +631,7 @@ def added_by_element(o, n, end):
     if is_link(o, t):
         return link_text(o.formatting, end, attr(n, "href"))
     if o.alt_texts and is_image(t):
-        return attr(n, "alt")
+        return alt_text(o, n)
     if o.form_fields and (is_textarea(t) or is_button(t)):
         return b" ] " if end else b"[ "
     if o.form_fields and is_input(t) and not is_unshown_type(trim(attr(n, "type"))):
@@ -1007,7 +1029,7 @@ def extraction(p, o, out=None, work=None, laws=False):
     return [0, 0, passes, len(text)], text
 
 
-# ---- crates/html2text/specs/{Theorems,Fused,Pieces,Demand}.antt, tried on one page
+# ---- crates/html2text/specs/{Theorems,Fused,Pieces,Demand,MissingAlt}.antt, tried on one page
 
 
 def try_laws(walk, entries, passes):
@@ -1030,6 +1052,7 @@ def try_laws(walk, entries, passes):
     except Refused:
         return
     text = rstrip(S.text)
+    missing_alt_right(walk, S)
     if o.formatting == OFF:
         demand_3(walk, text)
 
@@ -1038,7 +1061,7 @@ def element_pieces(o, n, end):
     if o.links and is_(n.name, "a"):
         return [b"(" + trim(attr(n, "href")) + b")"] if end else []
     if o.alt_texts and one_of(n.name, words("img area")):
-        return [attr(n, "alt")]
+        return [alt_text(o, n)]
     if o.form_fields and one_of(n.name, words("textarea button")):
         return [b"]" if end else b"["]
     if o.form_fields and is_(n.name, "input") and not is_unshown_type(trim(attr(n, "type"))):
@@ -1114,11 +1137,49 @@ def demand_3(walk, text):
     assert struck(text) == struck_pieces((path, s) for path, s in first if not further & set(path)), "second less"
 
 
+def lacks_alt(n):
+    return one_of(tag(n), words("img area")) and not is_there(attribute(n.attributes, b"alt"))
+
+
+def with_alt(alt, n):
+    return Node(n.kind, n.name, n.value, ([(b"alt", alt)] if lacks_alt(n) else []) + n.attributes)
+
+
+def alt_written(alt, p):
+    other = object.__new__(Page)
+    other.__dict__.update(p.__dict__)
+    other.node = [with_alt(alt, n) for n in p.node]
+    return other
+
+
+def with_missing_alt(on, o):
+    other = object.__new__(Options)
+    other.__dict__.update(o.__dict__)
+    other.missing_alt = on
+    return other
+
+
+def missing_alt_right(walk, S):
+    p, o = walk.p, walk.o
+    if not o.missing_alt:
+        assert all(alt_text(o, n) == attr(n, "alt") for n in p.node), "off"
+    # GiveTheSame: the entries, and so every need; the text; the pieces
+    entries = collect_all(o, walk.events(0, walk.tree(), []))
+    written = [(alt_written(missing_alt(o.missing_alt), p), on) for on in (False, True)]
+    for other, on in written + ([] if o.alt_texts else [(p, not o.missing_alt)]):
+        again = Walk(other, with_missing_alt(on, o))
+        others = collect_all(again.o, again.events(0, again.tree(), []))
+        assert [e.key() for e in others] == [e.key() for e in entries], "written" if other is not p else "without"
+        T = serialized(again.o, others)
+        assert (T.text, T.peak) == (S.text, S.peak), "text"
+        assert list(pieces(again, again.tree())) == list(pieces(walk, walk.tree())), "pieces"
+
+
 # ---- the program
 
 
 def answer(case, out=None, work=None, laws=False):
-    numbers, text = extraction(Page(case[11:]), Options(case[:11]), out, work, laws)
+    numbers, text = extraction(Page(case[LINE:]), Options(case[:LINE]), out, work, laws)
     said = b"%8d%8d%8d%8d\n" % tuple(numbers)
     return said + text + b"\n" if numbers[0] == 0 else said
 
@@ -1128,7 +1189,7 @@ ROOM = 16384
 
 
 def line_right(case):
-    return len(case) >= 11 and case[10] == 10 and case[0] in b"012" and all(b in b"01" for b in case[1:10])
+    return len(case) >= LINE and case[LINE - 1] == 10 and case[0] in b"012" and all(b in b"01" for b in case[1:LINE - 1])
 
 
 def printed(case):

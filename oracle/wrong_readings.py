@@ -89,8 +89,48 @@ WRONG = [
     ("a landmark's class", "finds(\"landmarkId\", id_)", "finds(\"landmarkId\", combined)"),
     ("role main", "attr_among(attributes, \"rel\", \"main\")", "attr_among(attributes, \"role\", \"main\")"),
     ("attributes are not trimmed", "return one_of(trim(attr_of(attributes, name)), words(values))", "return one_of(attr_of(attributes, name), words(values))"),
-    ("an empty hidden", "return attribute(attributes, name.encode()) is not None", "return attribute(attributes, name.encode()) not in (None, b\"\")"),
+    ("an empty hidden", "return is_there(attribute(attributes, name.encode()))", "return or_empty(attribute(attributes, name.encode())) != b\"\""),
 ]
+
+# missing_alt: what is missing, where the word stands, and what it is
+SAID, WORD = "return alt if is_there(alt) else missing_alt(o.missing_alt)", "return b\"[picture]\" if on else b\"\""
+WRITTEN, SHOWS = "return alt_text(o, n)\n", "if o.alt_texts and is_image(t):"
+LACKS = "not is_there(attribute(n.attributes, b\"alt\"))"
+WRONG += [
+    ("an empty alt is missing", SAID, "return alt if alt else missing_alt(o.missing_alt)"),
+    ("a blank alt is missing", SAID, "return alt if is_there(alt) and (alt == b\"\" or trim(alt)) else missing_alt(o.missing_alt)"),
+    ("an empty or blank alt is missing", SAID, "return alt if trim(or_empty(alt)) else missing_alt(o.missing_alt)"),
+    ("ALT is alt", "alt = attribute(n.attributes, b\"alt\")", "alt = attribute([(a.lower(), v) for a, v in n.attributes], b\"alt\")"),
+    ("a title stands for it", "alt = attribute(n.attributes, b\"alt\")", "alt = attribute(n.attributes, b\"alt\") or attribute(n.attributes, b\"title\")"),
+    ("the last alt counts", "alt = attribute(n.attributes, b\"alt\")", "alt = attribute(n.attributes[::-1], b\"alt\")"),
+    ("an img alone", SAID, "return or_empty(alt) if is_(n.name, \"area\") else alt if is_there(alt) else missing_alt(o.missing_alt)"),
+    ("an area alone", SAID, "return or_empty(alt) if is_(n.name, \"img\") else alt if is_there(alt) else missing_alt(o.missing_alt)"),
+    ("any element", SHOWS, "if o.alt_texts and (is_image(t) or o.missing_alt):"),
+    ("an svg or object too", SHOWS, "if o.alt_texts and (is_image(t) or o.missing_alt and one_of(n.name, words(\"svg object\"))):"),
+    ("an IMG too", SHOWS, "if o.alt_texts and (is_image(t) or o.missing_alt and one_of(n.name.lower(), words(\"img area\"))):"),
+    ("a missing href too", "return link_text(o.formatting, end, attr(n, \"href\"))", "return link_text(o.formatting, end, attr(n, \"href\") or missing_alt(o.missing_alt))"),
+    ("a missing value too", "return attr(n, \"placeholder\") if trim(attr(n, \"value\")) == b\"\"", "return (attr(n, \"placeholder\") or missing_alt(o.missing_alt)) if trim(attr(n, \"value\")) == b\"\""),
+    ("the word with alt_texts off", SHOWS, "if is_image(t) and (o.alt_texts or o.missing_alt and %s):" % LACKS),
+    ("all alts with alt_texts off", SHOWS, "if is_image(t) and (o.alt_texts or o.missing_alt):"),
+    ("the word with missing_alt off", WORD, "return b\"[picture]\""),
+    ("no word at all", WORD, "return b\"\""),
+    ("missing_alt before icons", "hidden_elements icons missing_alt\"", "hidden_elements missing_alt icons\""),
+    ("the word at the beginning alone", WRITTEN, "return b\"\" if end and %s else alt_text(o, n)\n" % LACKS),
+    ("the word at the end alone", WRITTEN, "return b\"\" if not end and %s else alt_text(o, n)\n" % LACKS),
+    ("no word with children", "n.text + added(o, e.node, e.end, n.node.tag)", "n.text + (b\"\" if e.children and lacks_alt(e.node) else added(o, e.node, e.end, n.node.tag))"),
+    ("no word in an a", "return added_by_element(o, n, end)", "return b\"\" if is_a(current) and lacks_alt(n) else added_by_element(o, n, end)"),
+    ("the word behind a cell is not lost", "return not nodes or pushes_after", "return not nodes or o.missing_alt and lacks_alt(e.node) or pushes_after"),
+    ("the word opens a block", "block=is_block_tag(t), big", "block=is_block_tag(t) or o.missing_alt and lacks_alt(e.node), big"),
+    ("the word of a row that is left out", "            if self.left_out(i):\n                continue\n            to.append", "            if self.left_out(i) and not (self.o.missing_alt and lacks_alt(self.p.node[i])):\n                continue\n            to.append"),
+    ("the word is not counted in 31", "need = max([len(e.text) for e in entries] + [0])", "need = max([len(e.text.replace(b\"[picture]\", b\"\")) for e in entries] + [0])"),
+    ("the word is not counted in 32", "self.peak = max(self.peak, len(self.text))", "self.peak = max(self.peak, len(self.text.replace(b\"[picture]\", b\"\")))"),
+    ("the lost word is not counted in 31", "need = max([len(e.text) for e in entries] + [0])", "need = max([len(e.text) for e in entries if not (is_cell(e.node.tag) and e.node.end)] + [0])"),
+    ("ten digits too", "all(b in b\"01\" for b in case[1:LINE - 1])", "all(b in b\"01\" for b in case[1:LINE - 1]) or case[10:11] == b\"\\n\" and case[0] in b\"012\" and all(b in b\"01\" for b in case[1:10])"),
+    ("ten digits and a byte too", "all(b in b\"01\" for b in case[1:LINE - 1])", "all(b in b\"01\" for b in case[1:LINE - 2])"),
+    ("any byte for LF", "len(case) >= LINE and case[LINE - 1] == 10 and", "len(case) >= LINE and"),
+]
+for word in "[picture", "picture]", "picture", "[Picture]", "[PICTURE]", "[image]", "[pictures]", "[picture] ", " [picture]", " [picture] ", "[ picture ]", "[picture]\\n":
+    WRONG.append(("the word as %r" % word, WORD, "return b\"%s\" if on else b\"\"" % word))
 
 # the ends of the private-use ranges
 for end in "\\uE000", "\\uF8FF", "\\U000F0000", "\\U000FFFFD", "\\U00100000", "\\U0010FFFD":

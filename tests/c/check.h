@@ -7,6 +7,9 @@
 #include <stdio.h>
 #include <string.h>
 
+/* the length of an option line: eleven digits and LF */
+enum { LINE = 12 };
+
 static int checks, failures;
 
 static inline void check(const char *what, size_t got, size_t wanted) {

@@ -4,7 +4,7 @@
 
 enum { ROUNDS = 200000, FILL = 0xA5 };
 
-#define STANDING "1011001100\n"
+#define STANDING "10110011000\n"
 
 static const char page[] = "       5       2      30       0\n"
                            "       0       1       0       0       4       0       0       0\n"
@@ -49,7 +49,7 @@ int main(void) {
         memset(out, FILL, sizeof out);
         memset(work, FILL, sizeof work);
         levzhada_answer verdict = levzhada_check(sheet, length);
-        levzhada_answer answer = levzhada_extract(sheet, length, bytes(STANDING), 11, out, sizeof out, work, sizeof work);
+        levzhada_answer answer = levzhada_extract(sheet, length, bytes(STANDING), LINE, out, sizeof out, work, sizeof work);
         if (verdict.number == LEVZHADA_ACCEPTED) {
             accepted++;
             unlike += answer.number != LEVZHADA_ACCEPTED;

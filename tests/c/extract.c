@@ -94,12 +94,13 @@ static void check_refused(const char *what, size_t sheet_length, const char *opt
 
 /* ---- the pages */
 
-#define STANDING "1011001100\n"
-#define OFF "0011001100\n"
-#define HTML "2011001100\n"
-#define LINKS "1011101100\n"
-#define MAIN "1111001100\n"
-#define ICONS "1111001101\n"
+#define STANDING "10110011000\n"
+#define OFF "00110011000\n"
+#define HTML "20110011000\n"
+#define LINKS "10111011000\n"
+#define MAIN "11110011000\n"
+#define ICONS "11110011010\n"
+#define PICTURES "10110011001\n"
 
 /* work and out: what is needed */
 static const struct {
@@ -132,6 +133,14 @@ static const struct {
     {"\xef\xa4\xbf", MAIN, "\xef\xa4\xbf", 3, 3, 3},
     {"abc", MAIN, "abc", 3, 3, 3},
     {"a b \n", STANDING, "a b", 3, 5, 4},
+    {"<img></img>", PICTURES, "[picture]", 3, 9, 9},
+    {"<img></img>", STANDING, "", 3, 0, 0},
+    {"a<area></area>b", PICTURES, "a[picture]b", 5, 11, 11},
+    {"a<img alt=\"\"></img>b", PICTURES, "ab", 5, 2, 2},
+    {"a<img alt=\" \"></img>b", PICTURES, "a b", 5, 3, 3},
+    {"a<img ALT=\"i\"></img>b", PICTURES, "a[picture]b", 5, 11, 11},
+    {"<img>c</img>", PICTURES, "[picture]c[picture]", 5, 19, 19},
+    {"<tr><td>1</td><img></img></tr>", PICTURES, "1", 8, 9, 1},
 };
 
 static void texts(void) {
@@ -156,8 +165,17 @@ static void texts(void) {
 /* ---- the numbers that come before 31 */
 
 static void lines(void) {
-    static const char *wrong[] = {"",           "1011001100",   "3011001100\n", "1211001100\n", "1011001102\n",
-                                  "101100110\n", "10110011000\n", "1011001100\r", "/011001100\n"};
+    static const char *wrong[] = {"",
+                                  "10110011000",
+                                  "10110011000\r",
+                                  "1011001100\n",
+                                  "1011001100\n\n",
+                                  "101100110000\n",
+                                  "30110011000\n",
+                                  "/0110011000\n",
+                                  "12110011000\n",
+                                  "10110011020\n",
+                                  "10110011002\n"};
     levzhada_answer wanted = {LEVZHADA_ACCEPTED, 0, 3, 1};
     size_t i, length = sheet_of("a");
     for (i = 0; i < sizeof wrong / sizeof wrong[0]; i++)

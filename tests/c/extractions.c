@@ -4,7 +4,7 @@
    four numbers and how work and out stand; then a text, or its sum where it is long. */
 #include "vectors.h"
 
-enum { CALLS = 745, SHEET = 262144, OUT = 262144, WORK = 65536, EDGE = 64, SHOWN = 200, LINE = 11, FILL = 165 };
+enum { CALLS = 1123, SHEET = 262144, OUT = 262144, WORK = 65536, EDGE = 64, SHOWN = 200, FILL = 165 };
 
 static uint8_t sheet[SHEET], out_room[OUT + 2 * EDGE], work_room[WORK + 2 * EDGE];
 static uint8_t *const out = out_room + EDGE, *const work = work_room + EDGE;

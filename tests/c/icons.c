@@ -10,7 +10,7 @@ enum form { ALONE, IN_BLANKS, TWICE, FORMS };
 static const char *const forms[FORMS] = {"alone", "in blanks", "twice"};
 
 /* formatting Off, main_content */
-static const char *const option_lines[2] = {"0111001100\n", "0111001101\n"};
+static const char *const option_lines[2] = {"01110011000\n", "01110011010\n"};
 
 /* ---- what is expected */
 
@@ -148,7 +148,7 @@ static void check_sheet(size_t length, const unsigned *codes, size_t count, enum
     memset(out, '#', room);
     memset(work, '#', room);
     sprintf(what, "U+%04X to U+%04X %s, icons %d", codes[0], codes[count - 1], forms[form], icons);
-    levzhada_answer a = levzhada_extract(bytes(sheet), length, bytes(option_lines[icons]), 11, out, room, work, room);
+    levzhada_answer a = levzhada_extract(bytes(sheet), length, bytes(option_lines[icons]), LINE, out, room, work, room);
     /* each row is met once, b once more behind its bar, body once more at the end */
     check_answer(what, a, LEVZHADA_ACCEPTED, 0, 3 + 4 * count, wanted);
     check_bytes(what, out, text, room);

@@ -6,9 +6,9 @@
 
 enum { ROWS = 20000, ATTRIBUTES = 60000, POOL = 4194304 };
 
-#define STANDING "1011001100\n"
-#define OFF "0011001100\n"
-#define MAIN "1111001100\n"
+#define STANDING "10110011000\n"
+#define OFF "00110011000\n"
+#define MAIN "11110011000\n"
 
 /* ---- a sheet that grows */
 
@@ -64,7 +64,7 @@ static int all(const uint8_t *s, size_t from, size_t to, uint8_t b) {
 static levzhada_answer extracted(const char *what, size_t length, const char *options, size_t out_length, size_t work_length) {
     memset(out, '#', out_length);
     memset(work, '#', work_length);
-    levzhada_answer a = levzhada_extract(bytes(sheet), length, bytes(options), 11, out, out_length, work, work_length);
+    levzhada_answer a = levzhada_extract(bytes(sheet), length, bytes(options), LINE, out, out_length, work, work_length);
     check(what, all(work, 0, work_length, a.number == LEVZHADA_ACCEPTED || a.number == LEVZHADA_OUT_TOO_SHORT ? 0 : '#'), 1);
     check(what, a.number == LEVZHADA_ACCEPTED ? all(out, a.length, out_length, 0) : all(out, 0, out_length, '#'), 1);
     return a;

@@ -2,13 +2,13 @@
    oracle/marks.py made. After each call every byte of the sheet is looked at, and the bytes on both sides of it. */
 #include "vectors.h"
 
-enum { LINE = 11, EDGE = 64, FILL = 165, ROOM = 40000, NODES = 20000, SHEETS = 110, CALLS = 355 };
+enum { EDGE = 64, FILL = 165, ROOM = 40000, NODES = 20000, SHEETS = 110, CALLS = 367 };
 enum { LARGEST = 33 + 65 * NODES + 16 };
 
-#define STANDING "1011001100\n"
-#define OFF "0011001100\n"
-#define OFF_NO_ALT "0010001100\n"
-#define OFF_FIELDS "0011011100\n"
+#define STANDING "10110011000\n"
+#define OFF "00110011000\n"
+#define OFF_NO_ALT "00100011000\n"
+#define OFF_FIELDS "00110111000\n"
 
 static uint8_t room[LARGEST + 2 * EDGE], before[LARGEST];
 static uint8_t *const sheet = room + EDGE;
@@ -121,6 +121,11 @@ static void noscripts(void) {
 
 /* ---- refusals */
 
+/* No LF, CR in its place, ten digits, twelve, and digits that are none of a formatting or a flag. */
+static const char *const wrong_lines[] = {"10110011000",    "10110011000\r", "1011001100\n",  "1011001100\n\n",
+                                          "101100110000\n", "30110011000\n", "10110011020\n", "10110011002\n"};
+enum { WRONG_LINES = sizeof wrong_lines / sizeof *wrong_lines };
+
 /* The sheets of tests/c/verdicts.c, of which none has a listed name: the same numbers, after 33, and nothing changes. */
 static size_t verdicts(void) {
     size_t n;
@@ -132,8 +137,8 @@ static size_t verdicts(void) {
         if (sscanf(line, "%zu %zu", &number, &second) != 2)
             end_badly("a number is wrong");
         sprintf(what, "verdict %zu", n);
-        check_refused(what, length, "1011001100", 10, LEVZHADA_WRONG_OPTIONS, 0);
-        check_refused(what, length, "1011001102\n", LINE, LEVZHADA_WRONG_OPTIONS, 0);
+        for (size_t k = 0; k < WRONG_LINES; k++)
+            check_refused(what, length, wrong_lines[k], strlen(wrong_lines[k]), LEVZHADA_WRONG_OPTIONS, 0);
         check_refused(what, length, STANDING, LINE, number, second);
         close_vector();
     }

@@ -3,7 +3,7 @@
    what the program prints: four numbers in 8 columns, and a line with a text. */
 #include "vectors.h"
 
-enum { INPUTS = 4076, ROOM = 16384, LINE = 11, FILL = 165 };
+enum { INPUTS = 4222, ROOM = 16384, FILL = 165 };
 
 static uint8_t input[ROOM], out[ROOM], work[ROOM];
 

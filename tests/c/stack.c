@@ -140,11 +140,11 @@ static void make(size_t rows, size_t down) {
 /* ---- the calls */
 
 static uint8_t *out, *work;
-static char options[12];
+static char options[LINE];
 static size_t asked, refused, accepted;
 
 static void extract(void) {
-    levzhada_answer a = levzhada_extract(bytes(sheet), sheet_length, bytes(options), 11, out, ROOM, work, ROOM);
+    levzhada_answer a = levzhada_extract(bytes(sheet), sheet_length, bytes(options), LINE, out, ROOM, work, ROOM);
     accepted += a.number == LEVZHADA_ACCEPTED;
     refused += a.number != LEVZHADA_ACCEPTED;
 }
@@ -160,16 +160,16 @@ static void matches(void) { levzhada_matches(asked % 21, bytes(sheet), sheet_len
 static void collapse(void) { levzhada_collapse(bytes(sheet), sheet_length, out, ROOM); }
 static void escape(void) { levzhada_escape(bytes(sheet), sheet_length, out, ROOM); }
 /* with alt_texts off */
-static void mark(void) { levzhada_mark((uint8_t *)sheet, sheet_length, bytes("1010001100\n"), 11, 0); }
+static void mark(void) { levzhada_mark((uint8_t *)sheet, sheet_length, bytes("10100011000\n"), LINE, 0); }
 
 /* All formattings, main_content off and on, the other options by chance. */
 static void extractions(size_t *most) {
     for (int formatting = 0; formatting < 3; formatting++)
         for (int main_content = 0; main_content < 2; main_content++) {
             int length = sprintf(options, "%d%d", formatting, main_content);
-            while (length < 10)
+            while (length < LINE - 1)
                 options[length++] = "01"[below(2)];
-            options[10] = '\n';
+            options[LINE - 1] = '\n';
             measure(extract, most);
         }
 }

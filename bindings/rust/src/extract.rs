@@ -14,7 +14,7 @@ pub enum Formatting {
 /// ```
 /// let mut options = levzhada::Options::default();
 /// options.links = true;
-/// assert_eq!(&options.line(), b"1011101100\n");
+/// assert_eq!(&options.line(), b"10111011000\n");
 /// ```
 #[derive(Clone, Copy, Debug, PartialEq, Eq)]
 #[non_exhaustive]
@@ -31,6 +31,8 @@ pub struct Options {
     /// Which text is an icon: false as the Rust has it; true "¶", and one private-use character (U+E000 to U+F8FF, U+F0000 to
     /// U+FFFFD, U+100000 to U+10FFFD).
     pub icons: bool,
+    /// With `alt_texts`: an img or area that has no attribute alt is written as one with `alt="[picture]"`; an empty alt is there.
+    pub missing_alt: bool,
 }
 
 impl Default for Options {
@@ -46,13 +48,14 @@ impl Default for Options {
             post_meta: true,
             hidden_elements: false,
             icons: false,
+            missing_alt: false,
         }
     }
 }
 
 impl Options {
-    /// The option line: ten digits and LF.
-    pub fn line(&self) -> [u8; 11] {
+    /// The option line: eleven digits and LF.
+    pub fn line(&self) -> [u8; 12] {
         let flag = |on| b'0' + u8::from(on);
         [
             b'0' + self.formatting as u8,
@@ -65,6 +68,7 @@ impl Options {
             flag(self.post_meta),
             flag(self.hidden_elements),
             flag(self.icons),
+            flag(self.missing_alt),
             b'\n',
         ]
     }

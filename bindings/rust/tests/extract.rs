@@ -35,14 +35,16 @@ fn check_text(sheet: &[u8], options: &Options, text: &str, visits: usize) {
 
 #[test]
 fn lines() {
-    assert_eq!(&Options::default().line(), b"1011001100\n");
+    assert_eq!(&Options::default().line(), b"10110011000\n");
     let mut options = formatted(Formatting::MinimalHtml);
     options.icons = true;
-    assert_eq!(&options.line(), b"2011001101\n");
+    assert_eq!(&options.line(), b"20110011010\n");
+    options.missing_alt = true;
+    assert_eq!(&options.line(), b"20110011011\n");
     let mut options = formatted(Formatting::Off);
     options.main_content = true;
     options.links = true;
-    assert_eq!(&options.line(), b"0111101100\n");
+    assert_eq!(&options.line(), b"01111011000\n");
 }
 
 #[test]
@@ -65,6 +67,31 @@ fn icons() {
     check_text(&rows(1, 3, "\u{F0000}"), &options, "", 3);
     check_text(&rows(1, 3, "\u{FFFFE}"), &options, "\u{FFFFE}", 3);
     check_text(&rows(1, 3, "−"), &options, "−", 3);
+}
+
+/// A body with an element of that name, which has one attribute.
+fn element(name: &str, attribute: &str, value: &str) -> Vec<u8> {
+    let (n, a, v) = (name.len(), attribute.len(), value.len());
+    let mut sheet = format!("{:8}{:8}{:8}{:8}\n", 2, 1, 4 + n + a + v, 0);
+    sheet += &format!("{:8}{:8}{:8}{:8}{:8}{:8}{:8}{:8}\n", 0, 1, 0, 0, 4, 0, 0, 0);
+    sheet += &format!("{:8}{:8}{:8}{:8}{:8}{:8}{:8}{:8}\n", 1, 1, 0, 4, n, 0, 0, 1);
+    sheet += &format!("{:8}{:8}{:8}{:8}\n", 4 + n, a, 4 + n + a, v);
+    (sheet + "body" + name + attribute + value).into_bytes()
+}
+
+#[test]
+fn missing_alts() {
+    let mut options = Options::default();
+    check_text(&rows(2, 1, "img"), &options, "", 4);
+    options.missing_alt = true;
+    check_text(&rows(2, 1, "img"), &options, "[picture][picture]", 4);
+    check_text(&element("area", "title", "t"), &options, "[picture]", 3);
+    check_text(&element("img", "ALT", "i"), &options, "[picture]", 3);
+    check_text(&element("img", "alt", ""), &options, "", 3);
+    check_text(&element("area", "alt", "i"), &options, "i", 3);
+    check_text(&rows(1, 1, "svg"), &options, "", 3);
+    options.alt_texts = false;
+    check_text(&rows(1, 1, "img"), &options, "", 3);
 }
 
 #[test]

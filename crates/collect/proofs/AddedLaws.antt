@@ -25,7 +25,7 @@ use Rattle.tree.proofs.PageLaws.{not-element}
 use Rattle.writer.specs.Shown.{escapedIf}
 use Rattle.serializer.specs.Progress.{readOf}
 use Rattle.html2text.specs.declared.Showing.{Showing}
-use Rattle.html2text.specs.Collect.{tagNumber, attr, isBreak, isLink, linkText, isUnshownType, fieldValue, addedByElement, added}
+use Rattle.html2text.specs.Collect.{tagNumber, attr, isBreak, isLink, linkText, isUnshownType, fieldValue, altText, addedByElement, added}
 use Rattle.collect.specs.Reads.{elementRead, readBy}
 use Rattle.collect.specs.Visits.{Visits, fieldText, inputText}
 use Rattle.collect.specs.declared.Visit.{Visit}
@@ -86,7 +86,7 @@ module _ (o : ExtractOptions) (n : Node) (end : Bool) {t : ℕ} (t-is : t ≡ ta
     element-link e = rw (← t-is, b, e, addedByElement)
 
     module _ (l : isLink o t ≡ false) where
-      pub element-alt : (o .«alt_texts» && isImage t) ≡ true → addedByElement o n end ≡ attr n (codes "alt")
+      pub element-alt : (o .«alt_texts» && isImage t) ≡ true → addedByElement o n end ≡ altText o n
       unfolding addedByElement
       element-alt e = rw (← t-is, b, l, e, addedByElement)
 

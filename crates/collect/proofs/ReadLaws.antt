@@ -15,7 +15,7 @@ use Rattle.serializer.specs.Progress.{readOf}
 use Rattle.tags.specs.Tags.{isA, isTextarea, isImage, isButton, isInput}
 use Rattle.text.specs.Text.{trim}
 use Rattle.tree.specs.Node.{element, text, Node}
-use Rattle.html2text.specs.Collect.{tagNumber, attr, isBreak, isLink, isUnshownType, fieldValue}
+use Rattle.html2text.specs.Collect.{tagNumber, attr, isBreak, isLink, isUnshownType, fieldValue, altText}
 use Rattle.html2text.specs.Escapes.{escapedOf, escapedOfElement}
 use Rattle.html2text.specs.Showing.{showingAfter}
 use Rattle.html2text.specs.declared.Showing.{Showing}
@@ -87,9 +87,9 @@ module _ (o : ExtractOptions) (w : Showing) (n : Node) (end : Bool) {t : ℕ} (t
         go MinimalHtml false = read-always w (trim (attr n (codes "href")))
 
     module _ (l : isLink o t ≡ false) where
-      pub read-alt : (o .«alt_texts» && isImage t) ≡ true → elementRead o w n end ≡ readOf w false (attr n (codes "alt"))
+      pub read-alt : (o .«alt_texts» && isImage t) ≡ true → elementRead o w n end ≡ readOf w false (altText o n)
       unfolding escapedOfElement
-      read-alt e = rw (← t-is, b, l, e, escapedOfElement) (read-with w (attr n (codes "alt")))
+      read-alt e = rw (← t-is, b, l, e, escapedOfElement) (read-with w (altText o n))
 
       module _ (i : (o .«alt_texts» && isImage t) ≡ false) where
         pub read-brackets : (o .«form_fields» && (isTextarea t || isButton t)) ≡ true → elementRead o w n end ≡ 0

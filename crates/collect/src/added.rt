@@ -14,30 +14,37 @@ use sheet::read::part;
 use sheet::read::row_at;
 use tree::attributes::AttributeAt;
 use tree::attributes::find;
-ghost use mathlib.Core.Bool.{_&&_, _||_, cond, true};
+use tree::attributes::or_empty;
+ghost use mathlib.Core.Bool.{_&&_, _||_, cond, false, true};
 ghost use mathlib.Core.List.{[], _++_};
 ghost use mathlib.Core.Path.{_≡_};
 ghost use Rattle.common.specs.Bytes.{codes};
-ghost use Rattle.html2text.specs.Collect.{added, addedByElement, attr, fieldValue, isUnshownType, linkText};
+ghost use Rattle.html2text.specs.Collect.{added, addedByElement, altText, attr, fieldValue, isUnshownType, linkText, missingAlt};
 ghost use Rattle.options.specs.Options.{isMinimalHtml};
 ghost use Rattle.tags.specs.Tags.{isA, isButton, isImage, isInput, isTextarea};
 ghost use Rattle.text.specs.Text.{escape, trim};
+ghost use Rattle.tree.specs.Attributes.{rangeOf};
 ghost use Rattle.tree.specs.Page.{nodeAt};
 ghost use Rattle.writer.specs.Shown.{escapedIf};
 ghost use Rattle.serializer.specs.Progress.{ShowReady, Shows, readOf};
 ghost use Rattle.collect.specs.Reads.{elementRead, fieldRead, inputRead, linkRead, readBy};
 ghost use Rattle.collect.specs.Visits.{Visits, fieldText, inputText};
 
-// `attr(node, name)`
-fn attribute_value<'a, 'b>(s: &'a [u8], l: Layout, v: Visit, name: &'b [u8]) -> &'a [u8]
+// The attribute of that name, or that there is none.
+fn attribute(s: &[u8], l: Layout, v: Visit, name: &[u8]) -> AttributeAt
+    requires { ⌜ Visits (now s) l v ⌝ }
+    ensures { λ r. ⌜ r ≡ rangeOf (now (s .entry)) l (v .row) (now (name .entry)) ⌝ }
+{
+    let r = row_at(s, l, v.row);
+    find(s, l, v.first, r.attributes, name)
+}
+
+// `attr(node, name)`: an absent one reads as empty.
+fn attribute_or_empty<'a, 'b>(s: &'a [u8], l: Layout, v: Visit, name: &'b [u8]) -> &'a [u8]
     requires { ⌜ Visits (now s) l v ⌝ }
     ensures { λ r. ⌜ now r ≡ attr (nodeAt (now (s .entry)) l (v .row)) (now (name .entry)) ⌝ }
 {
-    let r = row_at(s, l, v.row);
-    match find(s, l, v.first, r.attributes, name) {
-        AttributeAt::Absent => part(s, l, 0, 0),
-        AttributeAt::At { at, len } => part(s, l, at, len),
-    }
+    or_empty(s, l, attribute(s, l, v, name))
 }
 
 // A text between two others, escaped where asked.
@@ -113,7 +120,7 @@ fn put_link(
     requires { ⌜ ShowReady (o .formatting) (o .«list_bullets») write p (now out) (linkText (o .formatting) (v .end) (attr (nodeAt (now s) l (v .row)) (codes "href"))) (linkRead (o .formatting) (v .end) (p .showing) (attr (nodeAt (now s) l (v .row)) (codes "href"))) ⌝ }
     ensures { λ r. ⌜ Shows (o .formatting) (o .«list_bullets») write p (now (out .entry)) r (now (out .exit)) (linkText (o .formatting) (v .end) (attr (nodeAt (now (s .entry)) l (v .row)) (codes "href"))) (linkRead (o .formatting) (v .end) (p .showing) (attr (nodeAt (now (s .entry)) l (v .row)) (codes "href"))) ⌝ }
 {
-    let href = text::trim(attribute_value(s, l, v, b"href"));
+    let href = text::trim(attribute_or_empty(s, l, v, b"href"));
     let f = o.formatting;
     match f {
         Formatting::Off => put_address(o, p, href, v.end, out, write),
@@ -138,7 +145,7 @@ fn is_unshown(s: &[u8], l: Layout, v: Visit) -> bool
     requires { ⌜ Visits (now s) l v ⌝ }
     ensures { λ r. ⌜ r ≡ isUnshownType (trim (attr (nodeAt (now (s .entry)) l (v .row)) (codes "type"))) ⌝ }
 {
-    let kind = text::trim(attribute_value(s, l, v, b"type"));
+    let kind = text::trim(attribute_or_empty(s, l, v, b"type"));
     tags::one_of(kind, b"checkbox color file hidden radio reset")
 }
 
@@ -147,9 +154,9 @@ fn field_value(s: &[u8], l: Layout, v: Visit) -> &[u8]
     requires { ⌜ Visits (now s) l v ⌝ }
     ensures { λ r. ⌜ now r ≡ fieldValue (nodeAt (now (s .entry)) l (v .row)) ⌝ }
 {
-    let value = attribute_value(s, l, v, b"value");
+    let value = attribute_or_empty(s, l, v, b"value");
     if text::trim(value).len() == 0 {
-        return attribute_value(s, l, v, b"placeholder");
+        return attribute_or_empty(s, l, v, b"placeholder");
     }
     value
 }
@@ -194,6 +201,42 @@ fn put_input(
     put_field(o, s, l, v, p, out, write)
 }
 
+// What stands for an alt that is absent.
+fn put_missing_alt(o: ExtractOptions, p: Progress, out: &mut [u8], write: bool) -> Progress
+    requires { ⌜ ShowReady (o .formatting) (o .«list_bullets») write p (now out) (missingAlt (o .«missing_alt»)) (readOf (p .showing) false (missingAlt (o .«missing_alt»))) ⌝ }
+    ensures { λ r. ⌜ Shows (o .formatting) (o .«list_bullets») write p (now (out .entry)) r (now (out .exit)) (missingAlt (o .«missing_alt»)) (readOf (p .showing) false (missingAlt (o .«missing_alt»))) ⌝ }
+{
+    if o.missing_alt {
+        let f = o.formatting;
+        return show(f, o.list_bullets, p, b"[picture]", false, out, write);
+    }
+    p
+}
+
+// An img's or area's alt.
+fn put_alt(
+    o: ExtractOptions,
+    s: &[u8],
+    l: Layout,
+    v: Visit,
+    p: Progress,
+    out: &mut [u8],
+    write: bool,
+) -> Progress
+    requires { ⌜ Visits (now s) l v ⌝ }
+    requires { ⌜ ShowReady (o .formatting) (o .«list_bullets») write p (now out) (altText o (nodeAt (now s) l (v .row))) (readOf (p .showing) false (altText o (nodeAt (now s) l (v .row)))) ⌝ }
+    ensures { λ r. ⌜ Shows (o .formatting) (o .«list_bullets») write p (now (out .entry)) r (now (out .exit)) (altText o (nodeAt (now (s .entry)) l (v .row))) (readOf (p .showing) false (altText o (nodeAt (now (s .entry)) l (v .row)))) ⌝ }
+{
+    match attribute(s, l, v, b"alt") {
+        AttributeAt::Absent => put_missing_alt(o, p, out, write),
+        AttributeAt::At { at, len } => {
+            let f = o.formatting;
+            let alt = part(s, l, at, len);
+            show(f, o.list_bullets, p, alt, false, out, write)
+        }
+    }
+}
+
 fn shows_alt(o: ExtractOptions, tag: u8) -> bool
     ensures { λ r. ⌜ r ≡ (o .«alt_texts» && isImage tag) ⌝ }
 {
@@ -233,9 +276,7 @@ fn add_element(
         return put_link(o, s, l, v, p, out, write);
     }
     if shows_alt(o, v.tag) {
-        let f = o.formatting;
-        let alt = attribute_value(s, l, v, b"alt");
-        return show(f, o.list_bullets, p, alt, false, out, write);
+        return put_alt(o, s, l, v, p, out, write);
     }
     if shows_brackets(o, v.tag) {
         return put_bracket(o, p, v.end, out, write);

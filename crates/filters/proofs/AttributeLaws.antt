@@ -20,9 +20,10 @@ use Rattle.sheet.specs.declared.line.Attribute.{Attribute}
 use Rattle.sheet.specs.declared.line.Layout.{Layout}
 use Rattle.tags.specs.Words.{words, firstWord, otherWords, oneOf, numberFrom}
 use Rattle.tags.proofs.WordLaws.{each, each-at, no-number, number-below, number-word, one-word}
-use Rattle.tree.specs.Attributes.{nameAt, findOf, valueIn, attributesFrom}
+use Rattle.tree.specs.Attributes.{nameAt, findOf, valueIn, RangeInside, attributesFrom}
 use Rattle.tree.specs.Node.{attribute}
 use Rattle.tree.proofs.AttributeLines.{find-is}
+use Rattle.tree.specs.declared.attributes.AttributeAt.{AttributeAt}
 use Rattle.tree.specs.declared.attributes.AttributeAt.the-variants.{Absent, At}
 use Rattle.filters.specs.Gathered.{attributeNames, nameCount, slotCount, attributeNumber, slot, slotValue, SlotInside, Slots, Gathered, Readable}
 
@@ -154,13 +155,20 @@ module _ (s : Bytes) (l : Layout) where
       data-text-ad = holds 11 (omega arith);
     }
 
-  -- the value that a slot holds
-  pub slot-at : (at len : ℕ) → (at ≡ 0 → ⊥) → {v : Bytes} → v ≡ range s l (at - 1) len → v ≡ slotValue s l at len
-  slot-at zero len h e = absurd (h refl)
-  slot-at (suc at) len h e = let k : suc at - 1 ≡ at = omega arith in rw k at e
-
   pub value-fits : {a : Attribute} → Accepted s l → (j : ℕ) → j < l .attributes → a ≡ attributeAt s l j → a .«value_at» + a .«value_len» ≤ l .pool
   value-fits w j h e = rw e (w .attribute-value j h .inside)
 
   pub number-of-part : (j : ℕ) {k : ℕ} {a : Attribute} {name : Bytes} → a ≡ attributeAt s l j → name ≡ range s l (a .«name_at») (a .«name_len») → k ≡ attributeNumber name → k ≡ attributeNumber (nameAt s l j)
   number-of-part j a-is name-is e = e ∙ rw (name-is, a-is)
+
+-- the attribute in a slot
+pub slot-absent : (at len : ℕ) → at ≡ 0 → Absent ≡ slot at len
+slot-absent at len e = rw e
+
+pub slot-at : (at len : ℕ) → (at ≡ 0 → ⊥) → At (at - 1) len ≡ slot at len
+slot-at zero len h = absurd (h refl)
+slot-at (suc at) len h = let k : suc at - 1 ≡ at = omega arith in rw k
+
+pub slot-inside : (l : Layout) (at len : ℕ) → SlotInside l at len → {a : AttributeAt} → a ≡ slot at len → RangeInside l a
+slot-inside l zero len h e = rw e tt
+slot-inside l (suc at) len h e = let k : at + len ≤ l .pool = omega arith in rw e k

@@ -1,3 +1,4 @@
+pub mod AltLaws
 pub mod AttributeLaws
 pub mod ClassLaws
 pub mod ExampleLaws

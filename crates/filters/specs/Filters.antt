@@ -1,7 +1,6 @@
 -- `is_main_content` of filters.rs (document 01, module 5), with its order of tests. Each test stands over what it reads.
 use mathlib.Core.Bool.{Bool, true, false, _&&_, _||_, not, cond}
 use mathlib.Core.List.{List, [], _∷_}
-use mathlib.Core.Option.{Option, none, some}
 use Prim.Native.Nat.{ℕ, _-_}
 use Prim.Native.String.{String}
 use lib.Dec.{leb, ltb}
@@ -16,16 +15,12 @@ use Rattle.regex.specs.Match.{finds}
 use Rattle.tags.specs.Tags.{isBlock}
 use Rattle.tags.specs.Words.{words, is, oneOf}
 use Rattle.text.specs.Text.{trim}
-use Rattle.tree.specs.Node.{element, text, comment, Attribute, Node, attribute, attributeOrEmpty}
+use Rattle.tree.specs.Node.{element, text, comment, Attribute, Node, attribute, isThere, attributeOrEmpty}
 use Rattle.tree.specs.Page.{Page}
 use Rattle.filters.specs.Footer.{followedFrom, followed, bodyFrom, bodyAbove}
 use Rattle.filters.specs.Icon.{isIcon}
 
 -- ---- attributes
-
-abbrev pub isThere : Option Bytes → Bool
-isThere none = false
-isThere (some value) = true
 
 -- `has_attr(node, name)`
 abbrev pub hasAttr : List Attribute → String → Bool

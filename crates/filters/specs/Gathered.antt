@@ -2,7 +2,6 @@
 use mathlib.Core.Path.{_≡_}
 use mathlib.Core.Bool.{Bool, not}
 use mathlib.Core.List.{List, []}
-use mathlib.Core.Option.{Option·getD}
 use Prim.Native.Nat.{ℕ, zero, suc, _+_, _≤_, _<_}
 use lib.Dec.{eqb}
 use lib.ListN.{getD, length}
@@ -10,7 +9,7 @@ use Rattle.common.specs.Bytes.{Bytes, codes}
 use Rattle.sheet.specs.declared.line.Layout.{Layout}
 use Rattle.tags.specs.Words.{words, numberOf}
 use Rattle.tree.specs.Attributes.{valueIn, findOf}
-use Rattle.tree.specs.Node.{Attribute, attribute}
+use Rattle.tree.specs.Node.{Attribute, attribute, orEmpty}
 use Rattle.tree.specs.declared.attributes.AttributeAt.{AttributeAt}
 use Rattle.tree.specs.declared.attributes.AttributeAt.the-variants.{Absent, At}
 use Rattle.filters.specs.Numbers as number
@@ -35,9 +34,13 @@ abbrev pub slot : ℕ → ℕ → AttributeAt
 slot zero len = Absent
 slot (suc at) len = At at len
 
+-- `has_attr`
+abbrev pub slotIsThere : ℕ → Bool
+slotIsThere at = not (eqb at 0)
+
 -- `attr`: "An absent attribute reads as empty."
 abbrev pub slotValue : Bytes → Layout → ℕ → ℕ → Bytes
-slotValue s l at len = Option·getD (valueIn s l (slot at len)) []
+slotValue s l at len = orEmpty (valueIn s l (slot at len))
 
 -- the value lies in the pool
 abbrev pub SlotInside : Layout → ℕ → ℕ → Type 0

@@ -2,6 +2,8 @@
 use sheet::line::Layout;
 use sheet::read::attribute_at;
 use sheet::read::part;
+use tree::attributes::AttributeAt;
+use tree::attributes::or_empty;
 ghost use mathlib.Core.Bool.{cond};
 ghost use mathlib.Core.Path.{_≡_};
 ghost use Prim.Native.Nat.{_+_, _≤_, _<_};
@@ -9,7 +11,7 @@ ghost use lib.ListN.{getD, length, replicate};
 ghost use Rattle.common.specs.Bytes.{same};
 ghost use Rattle.sheet.specs.Accepted.{Accepted};
 ghost use Rattle.sheet.specs.Layout.{poolLimit};
-ghost use Rattle.filters.specs.Gathered.{attributeNumber, Readable, slotCount, slotValue, SlotInside, Slots};
+ghost use Rattle.filters.specs.Gathered.{attributeNumber, Readable, slot, slotCount, slotIsThere, slotValue, SlotInside, Slots};
 
 // The numbers of the names, their slots; slot 0 is for all others.
 pub const HIDDEN: usize = 1;
@@ -100,15 +102,30 @@ pub fn gather(
     }
 }
 
-// The value that stands in a slot.
+// `has_attr(node, name)`: whether slot k has an attribute, perhaps an empty one.
+pub fn is_there(starts: &[usize; SLOTS], k: usize) -> bool
+    requires { ⌜ k < slotCount ⌝ }
+    ensures { λ r. ⌜ r ≡ slotIsThere (getD (now (starts .entry)) k 0) ⌝ }
+{
+    starts[k] != 0
+}
+
+// The attribute in a slot.
+fn in_slot(at: usize, len: usize) -> AttributeAt
+    ensures { λ r. ⌜ r ≡ slot at len ⌝ }
+{
+    if at == 0 {
+        return AttributeAt::Absent;
+    }
+    AttributeAt::At { at: at - 1, len }
+}
+
+// `attr(node, name)`: an absent one reads as empty.
 pub fn value(s: &[u8], l: Layout, at: usize, len: usize) -> &[u8]
     requires { ⌜ Accepted (now s) l × SlotInside l at len ⌝ }
     ensures { λ r. ⌜ now r ≡ slotValue (now (s .entry)) l at len ⌝ }
 {
-    if at == 0 {
-        return part(s, l, 0, 0);
-    }
-    part(s, l, at - 1, len)
+    or_empty(s, l, in_slot(at, len))
 }
 
 // The value in slot k.

@@ -1,6 +1,7 @@
 // Tests on the values of attributes.
 use crate::attributes;
 use crate::attributes::SLOTS;
+use crate::attributes::is_there;
 use crate::attributes::value;
 use sheet::line::Layout;
 ghost use mathlib.Core.Bool.{false};
@@ -45,7 +46,7 @@ pub fn hidden_by_attribute(
     requires { ⌜ Accepted (now s) l × Readable l (now starts) (now lengths) ⌝ }
     ensures { λ r. ⌜ ((attributes : List Attribute) → Gathered (now (s .entry)) l attributes (now (starts .entry)) (now (lengths .entry)) → r ≡ hiddenByAttribute attributes) ⌝ }
 {
-    if starts[attributes::HIDDEN] != 0 {
+    if is_there(starts, attributes::HIDDEN) {
         return true;
     }
     if among(
@@ -77,13 +78,13 @@ pub fn hidden_by_attribute(
 pub fn ad_attribute(starts: &[usize; SLOTS]) -> bool
     ensures { λ r. ⌜ ((s : List ℕ) (l : Layout) (attributes : List Attribute) (lengths : List ℕ) → Gathered s l attributes (now (starts .entry)) lengths → r ≡ adAttribute attributes) ⌝ }
 {
-    if starts[attributes::DATA_AD] != 0 {
+    if is_there(starts, attributes::DATA_AD) {
         return true;
     }
-    if starts[attributes::DATA_ADVERTISEMENT] != 0 {
+    if is_there(starts, attributes::DATA_ADVERTISEMENT) {
         return true;
     }
-    starts[attributes::DATA_TEXT_AD] != 0
+    is_there(starts, attributes::DATA_TEXT_AD)
 }
 
 pub fn rel_main(s: &[u8], l: Layout, starts: &[usize; SLOTS], lengths: &[usize; SLOTS]) -> bool

@@ -59,7 +59,7 @@ without-same : {A : Type 0} (z : A) {x y : A} (b c : Bool) → b ≡ c → (b �
 without-same z {y = y} true c e f = ap (λ (q : Bool). cond q z y) e
 without-same z {y = y} false c e f = f refl ∙ ap (λ (q : Bool). cond q z y) e
 
-map-cond : {A B : Type 0} (f : A → B) (b : Bool) (x y : List A) → map f (cond b x y) ≡ cond b (map f x) (map f y)
+pub map-cond : {A B : Type 0} (f : A → B) (b : Bool) (x y : List A) → map f (cond b x y) ≡ cond b (map f x) (map f y)
 map-cond f true x y = refl
 map-cond f false x y = refl
 

@@ -1,8 +1,9 @@
 -- The rows of an accepted sheet hold UTF-8, and so does every entry that `collect` makes of them.
 use mathlib.Core.Path.{refl}
-use mathlib.Core.Bool.{Bool, true, false, _&&_, _||_, not}
+use mathlib.Core.Bool.{Bool, true, false, _&&_, _||_, not, cond}
 use mathlib.Core.List.{List, [], _∷_}
-use mathlib.Core.Option.{some, Option·getD}
+use mathlib.Core.Option.{Option, some, Option·getD}
+use mathlib.Core.Option as option
 use Prim.Native.Nat.{ℕ, zero, suc, _+_, _≤_, _<_}
 use native.Mathlib.Omega.{arith}
 use Rattle.common.specs.Bytes.{Bytes, codes, same, isEmpty}
@@ -19,14 +20,14 @@ use Rattle.sheet.proofs.LayoutLaws.{depths-from-length}
 use Rattle.tags.specs.Tags.{isA, isTextarea, isImage, isButton, isInput}
 use Rattle.text.specs.Text.{trim}
 use Rattle.tree.specs.Attributes.{nameAt, valueAt, attributesFrom}
-use Rattle.tree.specs.Node.{Node, attribute, attributeOrEmpty}
+use Rattle.tree.specs.Node.{Node, attribute, orEmpty, attributeOrEmpty}
 use Rattle.tree.specs.Page.{nodeAt, pageOf}
 use Rattle.tree.proofs.AttributeLines.{counts-fit}
 use Rattle.tree.proofs.NodeLaws.{by-kind}
 use Rattle.utf8.specs.Abnf.{UTF8-octets, none}
 use Rattle.utf8.specs.Valid.{expect, valid}
 use Rattle.html2text.specs.Bounds.{Each}
-use Rattle.html2text.specs.Collect.{Event, Entry, tagNumber, attr, pushes, pushed, isLink, isBreak, linkText, isUnshownType, fieldValue, addedByElement, added, amended, onLast, collect, collectAll}
+use Rattle.html2text.specs.Collect.{Event, Entry, tagNumber, attr, pushes, pushed, isLink, isBreak, linkText, isUnshownType, fieldValue, missingAlt, altText, addedByElement, added, amended, onLast, collect, collectAll}
 use Rattle.html2text.specs.Walk.{events, treeOf}
 use Rattle.html2text.proofs.EachLaws.{tree-each}
 use Rattle.html2text.proofs.EncodedBytes.{octets-valid, octets-append, octets-trim, octets-escape}
@@ -53,13 +54,21 @@ module _ (o : ExtractOptions) (n : Node) (h : Utf8Node n) where
   field-octets : UTF8-octets (fieldValue n)
   field-octets = by-cond UTF8-octets (isEmpty (trim (attr n (codes "value")))) (λ e. h .attributes (codes "placeholder")) (λ e. h .attributes (codes "value"))
 
+  alt-octets : UTF8-octets (altText o n)
+  unfolding valid expect codes
+  alt-octets = go (attribute (n .attributes) (codes "alt")) (h .attributes (codes "alt"))
+    where
+      go : (a : Option Bytes) → UTF8-octets (orEmpty a) → UTF8-octets (Option·getD a (missingAlt (o .«missing_alt»)))
+      go (some value) q = q
+      go option.none q = by-cond UTF8-octets (o .«missing_alt») (λ _. octets-valid (missingAlt true) refl) (λ _. none)
+
   element-octets : (end : Bool) → UTF8-octets (addedByElement o n end)
   unfolding addedByElement valid expect codes
   element-octets end =
       let t = tagNumber n in
       by-cond UTF8-octets (isBreak o t) (λ _. none)
       (λ _. by-cond UTF8-octets (isLink o t) (λ _. link-octets (o .formatting) end (h .attributes (codes "href")))
-      (λ _. by-cond UTF8-octets (o .«alt_texts» && isImage t) (λ _. h .attributes (codes "alt"))
+      (λ _. by-cond UTF8-octets (o .«alt_texts» && isImage t) (λ _. alt-octets)
       (λ _. by-cond UTF8-octets (o .«form_fields» && (isTextarea t || isButton t))
       (λ _. by-cond UTF8-octets end (λ _. octets-valid (codes " ] ") refl) (λ _. octets-valid (codes "[ ") refl))
       (λ _. by-cond UTF8-octets (o .«form_fields» && (isInput t && not (isUnshownType (trim (attr n (codes "type"))))))

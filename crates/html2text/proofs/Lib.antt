@@ -22,6 +22,7 @@ pub mod GoingLaws
 pub mod LevelLaws
 pub mod LevelMetLaws
 pub mod LostStrip
+pub mod MissingAltLaws
 pub mod OffLaws
 pub mod OpenLaws
 pub mod PageBounds

@@ -3,7 +3,7 @@
 use mathlib.Core.Path.{_≡_, refl}
 use mathlib.Core.Bool.{Bool, true, false, _&&_, _||_, not, cond}
 use mathlib.Core.List.{List, [], _∷_, _++_}
-use mathlib.Core.Option.{some, Option·getD}
+use mathlib.Core.Option.{Option, none, some, Option·getD}
 use Prim.Native.Nat.{ℕ, zero, suc, _+_, _*_, _≤_, _<_}
 use native.Mathlib.Omega.{arith}
 use lib.ListN.{length, take, drop, length-append, length-take, length-drop}
@@ -25,11 +25,11 @@ use Rattle.text.proofs.EscapeLaws.{escape-length}
 use Rattle.text.proofs.TrimLaws.{trim-length}
 use Rattle.tree.specs.Attributes.{nameAt, valueAt, attributesFrom}
 use Rattle.tree.specs.Forest.{Forest, empty, node}
-use Rattle.tree.specs.Node.{Node, attribute, attributeOrEmpty}
+use Rattle.tree.specs.Node.{Node, attribute, orEmpty, attributeOrEmpty}
 use Rattle.tree.specs.Page.{nodeAt, pageOf}
 use Rattle.tree.proofs.NodeLaws.{by-kind}
 use Rattle.html2text.specs.Bounds.{Each, AddsAtMost, EventsBounded, addedIn}
-use Rattle.html2text.specs.Collect.{Event, tagNumber, attr, isLink, isBreak, linkText, isUnshownType, fieldValue, addedByElement, added}
+use Rattle.html2text.specs.Collect.{Event, tagNumber, attr, isLink, isBreak, linkText, isUnshownType, fieldValue, missingAlt, altText, addedByElement, added}
 use Rattle.html2text.specs.Serialize.{one}
 use Rattle.html2text.specs.Walk.{hasTrees, leftOut, eventAt, events, visits, treeOf}
 use Rattle.html2text.proofs.EachLaws.{tree-each}
@@ -57,13 +57,21 @@ module _ {p : ℕ} (o : ExtractOptions) (n : Node) (short : Short p n) where
   field-fits =
       by-cond (λ (s : Bytes). length s ≤ p) (isEmpty (trim (attr n (codes "value")))) (λ e. short .attributes (codes "placeholder")) (λ e. short .attributes (codes "value"))
 
+  alt-fits : Fits (altText o n)
+  unfolding Fits codes
+  alt-fits = go (attribute (n .attributes) (codes "alt")) (short .attributes (codes "alt"))
+    where
+      go : (a : Option Bytes) → length (orEmpty a) ≤ p → length (Option·getD a (missingAlt (o .«missing_alt»))) ≤ 6 * p + 11
+      go (some value) h = omega arith
+      go none h = by-cond (λ (s : Bytes). length s ≤ 6 * p + 11) (o .«missing_alt») (λ e. omega arith) (λ e. omega arith)
+
   element-fits : (end : Bool) → Fits (addedByElement o n end)
   unfolding Fits addedByElement codes
   element-fits end =
       let t = tagNumber n in
       by-cond Fits (isBreak o t) (λ e. omega arith)
       (λ e. by-cond Fits (isLink o t) (λ _. link-fits (o .formatting) end (attr n (codes "href")) (short .attributes (codes "href")))
-      (λ _. by-cond Fits (o .«alt_texts» && isImage t) (λ _. omega (arith, short .attributes (codes "alt")))
+      (λ _. by-cond Fits (o .«alt_texts» && isImage t) (λ _. alt-fits)
       (λ _. by-cond Fits (o .«form_fields» && (isTextarea t || isButton t)) (λ _. by-cond Fits end (λ _. omega arith) (λ _. omega arith))
       (λ _. by-cond Fits (o .«form_fields» && (isInput t && not (isUnshownType (trim (attr n (codes "type"))))))
       (λ _. by-cond Fits (isEmpty (trim (fieldValue n))) (λ _. omega arith) (λ _. omega (arith, field-fits, trim-length isSpace (fieldValue n), length-append (trim (fieldValue n)) (codes " ] "))))

@@ -1,6 +1,7 @@
 -- `collect` of html2text.rs: one event of the walk, and the entries that it makes.
 use mathlib.Core.Bool.{Bool, true, _&&_, _||_, not, cond}
 use mathlib.Core.List.{List, [], _∷_, _++_}
+use mathlib.Core.Option.{Option·getD}
 use Prim.Native.Nat.{ℕ, _+_, _-_}
 use lib.Dec.{ltb}
 use Rattle.common.specs.Bytes.{Bytes, codes, isEmpty}
@@ -11,7 +12,7 @@ use Rattle.options.specs.declared.Formatting.the-variants.{Off, Basic, MinimalH
 use Rattle.tags.specs.Tags.{tagOf, isBlockTag, isBigBlock, isCell, isPre, isBr, isA, isTextarea, isImage, isButton, isInput}
 use Rattle.tags.specs.Words.{oneOf, words}
 use Rattle.text.specs.Text.{trim, escape}
-use Rattle.tree.specs.Node.{element, text, comment, Node, tag, attributeOrEmpty}
+use Rattle.tree.specs.Node.{element, text, comment, Node, tag, attribute, attributeOrEmpty}
 use Rattle.html2text.specs.declared.ExtractNode.{ExtractNode}
 
 -- a pass of the walk's loop that is not left out: `collect`'s arguments; `children` is `node.has_child_nodes()`
@@ -32,7 +33,7 @@ pub record Entry : Type 0 where
 abbrev pub tagNumber : Node → ℕ
 tagNumber n = tagOf (tag n)
 
--- `attr(node, name)`
+-- `attr(node, name)`: an absent one reads as empty
 abbrev pub attr : Node → Bytes → Bytes
 attr n name = attributeOrEmpty (n .attributes) name
 
@@ -109,13 +110,22 @@ isUnshownType s = oneOf s (words "checkbox color file hidden radio reset")
 abbrev pub fieldValue : Node → Bytes
 fieldValue n = cond (isEmpty (trim (attr n (codes "value")))) (attr n (codes "placeholder")) (attr n (codes "value"))
 
+-- what stands for an alt that is absent, with missing_alt on or off; document 02, CR 4: "writes "[picture]" for an img or area with no alt
+-- attribute"
+abbrev pub missingAlt : Bool → Bytes
+missingAlt on = cond on (codes "[picture]") []
+
+-- an img's or area's alt
+abbrev pub altText : ExtractOptions → Node → Bytes
+altText o n = Option·getD (attribute (n .attributes) (codes "alt")) (missingAlt (o .«missing_alt»))
+
 -- of an element
 unfoldable pub addedByElement : ExtractOptions → Node → Bool → Bytes
 addedByElement o n end =
     let t = tagNumber n in
     cond (isBreak o t) []
     (cond (isLink o t) (linkText (o .formatting) end (attr n (codes "href")))
-    (cond (o .«alt_texts» && isImage t) (attr n (codes "alt"))
+    (cond (o .«alt_texts» && isImage t) (altText o n)
     (cond (o .«form_fields» && (isTextarea t || isButton t)) (cond end (codes " ] ") (codes "[ "))
     (cond (o .«form_fields» && (isInput t && not (isUnshownType (trim (attr n (codes "type"))))))
     (cond (isEmpty (trim (fieldValue n))) [] (codes "[ " ++ (trim (fieldValue n) ++ codes " ] ")))

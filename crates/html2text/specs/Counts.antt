@@ -3,10 +3,11 @@ use mathlib.Core.Bool.{Bool, true, false, _&&_}
 use mathlib.Core.List.{List, [], _∷_}
 use Prim.Native.Nat.{ℕ}
 use lib.Dec.{T, eqb}
+use Rattle.options.specs.Options.{withLinks}
 use Rattle.options.specs.declared.ExtractOptions.{ExtractOptions}
 use Rattle.options.specs.declared.Formatting.the-variants.{Off, Basic, MinimalHtml}
 use Rattle.html2text.specs.Escapes.{escapedLength}
-use Rattle.html2text.specs.Examples.{Rows, _is_, tagged, plain, words, page, formatted, linked, fielded}
+use Rattle.html2text.specs.Examples.{Rows, _is_, tagged, plain, words, page, formatted, linked, fielded, picturing}
 
 pub record Counted : Type 0 where
   pub options : ExtractOptions
@@ -24,6 +25,9 @@ inCell = (0, plain "body") ∷ (1, plain "tr") ∷ (2, plain "td") ∷ (3, words
 abbrev pub pictured : Rows
 pictured = (0, plain "body") ∷ (1, tagged "a" (("href" is " u ") ∷ [])) ∷ (2, tagged "img" (("alt" is "pic") ∷ [])) ∷ []
 
+abbrev pub unpictured : Rows
+unpictured = (0, plain "body") ∷ (1, tagged "a" (("href" is " u ") ∷ [])) ∷ (2, plain "img") ∷ []
+
 unfoldable pub counts : List Counted
 counts =
     -- a text, LF and eight blanks, a text in a marked row
@@ -37,6 +41,9 @@ counts =
     -- an alt with its entry, and in an `a` with links, where it is not escaped
     ∷ counted (formatted MinimalHtml) pictured [] 3
     ∷ counted (linked MinimalHtml) pictured [] 1
+    -- "[picture]" as an alt
+    ∷ counted (picturing MinimalHtml) ((0, plain "body") ∷ (1, plain "p") ∷ (2, plain "img") ∷ []) [] 9
+    ∷ counted (withLinks true (picturing MinimalHtml)) unpictured [] 1
     -- a cell's end
     ∷ counted (formatted MinimalHtml) inCell [] 1
     -- a field's value, trimmed; the brackets are ours

@@ -1,5 +1,5 @@
 -- Document 02, CR 3: the texts that an extraction escapes, each as it stands in the sheet, and how many bytes they have. One that is escaped
--- twice counts once.
+-- twice counts once. The word for a missing alt counts as an alt does.
 use mathlib.Core.Bool.{Bool, _&&_, _||_, not, cond}
 use mathlib.Core.List.{List, [], _∷_}
 use Prim.Native.Nat.{ℕ, _+_}
@@ -13,7 +13,7 @@ use Rattle.text.specs.Text.{trim}
 use Rattle.tree.specs.Node.{element, text, comment, Node}
 use Rattle.tree.specs.Page.{Page, pageOf}
 use Rattle.tree.specs.Questions.{onSheet}
-use Rattle.html2text.specs.Collect.{Event, Entry, tagNumber, attr, isBreak, isLink, isUnshownType, fieldValue, collect}
+use Rattle.html2text.specs.Collect.{Event, Entry, tagNumber, attr, isBreak, isLink, isUnshownType, fieldValue, altText, collect}
 use Rattle.html2text.specs.Extract.{hidden, filteredBy}
 use Rattle.html2text.specs.Fused.{Fused, fed}
 use Rattle.html2text.specs.Walk.{events, treeOf}
@@ -27,7 +27,7 @@ escapedOfElement o escape n end =
     let t = tagNumber n in
     cond (isBreak o t) []
     (cond (isLink o t) (cond (isMinimalHtml (o .formatting) && not end) (trim (attr n (codes "href"))) [])
-    (cond (o .«alt_texts» && isImage t) (cond escape (attr n (codes "alt")) [])
+    (cond (o .«alt_texts» && isImage t) (cond escape (altText o n) [])
     (cond (o .«form_fields» && (isTextarea t || isButton t)) []
     (cond (o .«form_fields» && (isInput t && not (isUnshownType (trim (attr n (codes "type"))))))
     (cond escape (trim (fieldValue n)) [])

@@ -1,4 +1,5 @@
--- Worked examples: small pages with the texts, visits and needs that the Rust's functions have for them, and calls with buffers.
+-- Worked examples: small pages with the texts, visits and needs that the Rust's functions have for them or, with missing_alt on, that
+-- document 02, CR 4, asks for, and calls with buffers.
 use mathlib.Core.Bool.{Bool, true, false, _&&_, _||_, cond}
 use mathlib.Core.List.{List, [], _∷_, _++_, map}
 use Prim.Native.Nat.{ℕ}
@@ -7,7 +8,7 @@ use lib.Dec.{T, eqb}
 use lib.ListN.{length, getD, replicate}
 use Rattle.common.specs.Answer.{Answer, refused, accepted}
 use Rattle.common.specs.Bytes.{Bytes, codes, same}
-use Rattle.options.specs.Options.{standing, withFormatting, withMainContent, withListBullets, withAltTexts, withLinks, withFormFields}
+use Rattle.options.specs.Options.{standing, withFormatting, withMainContent, withListBullets, withAltTexts, withLinks, withFormFields, withMissingAlt}
 use Rattle.options.specs.declared.ExtractOptions.{ExtractOptions}
 use Rattle.options.specs.declared.Formatting.{Formatting}
 use Rattle.options.specs.declared.Formatting.the-variants.{Off, Basic, MinimalHtml}
@@ -64,6 +65,9 @@ unbulleted f = withListBullets false (formatted f)
 abbrev pub unalternated : Formatting → ExtractOptions
 unalternated f = withAltTexts false (formatted f)
 
+abbrev pub picturing : Formatting → ExtractOptions
+picturing f = withMissingAlt true (formatted f)
+
 abbrev pub main : ExtractOptions
 main = withMainContent true standing
 
@@ -102,6 +106,10 @@ areRight (e ∷ es) = isRight e && areRight es
 -- U+2022
 abbrev dot : Bytes
 dot = 0xe2 ∷ 0x80 ∷ 0xa2 ∷ []
+
+-- `a<img>b`
+abbrev between : Page
+between = page ((0, plain "body") ∷ (1, words "a") ∷ (1, plain "img") ∷ (1, words "b") ∷ []) [] 0
 
 unfoldable pub pages : List Example
 pages =
@@ -209,6 +217,39 @@ pages =
     ∷ example (unalternated Basic)
     (page ((0, plain "body") ∷ (1, tagged "img" ("alt" is "a" ∷ [])) ∷ (1, words "b") ∷ []) [] 0)
     (codes "b") 4 1 1
+    -- `a<img>b`: an absent alt, with missing_alt on and off, and with alt_texts off
+    ∷ example (picturing Off) between (codes "a[picture]b") 5 11 11
+    ∷ example (formatted Off) between (codes "ab") 5 2 2
+    ∷ example (withAltTexts false (picturing Off)) between (codes "ab") 5 2 2
+    -- `<img>`: alone
+    ∷ example (picturing Off) (page ((0, plain "body") ∷ (1, plain "img") ∷ []) [] 0) (codes "[picture]") 3 9 9
+    -- `<img>c</img>`: with children it is said once more
+    ∷ example (picturing Off)
+    (page ((0, plain "body") ∷ (1, plain "img") ∷ (2, words "c") ∷ []) [] 0)
+    (codes "[picture]c[picture]") 5 19 19
+    -- `a<img alt=" ">b`, `a<img alt="">b`: a blank or empty alt is there
+    ∷ example (picturing Off)
+    (page ((0, plain "body") ∷ (1, words "a") ∷ (1, tagged "img" ("alt" is " " ∷ [])) ∷ (1, words "b") ∷ []) [] 0)
+    (codes "a b") 5 3 3
+    ∷ example (picturing Off)
+    (page ((0, plain "body") ∷ (1, words "a") ∷ (1, tagged "img" ("alt" is "" ∷ [])) ∷ (1, words "b") ∷ []) [] 0)
+    (codes "ab") 5 2 2
+    -- `<img ALT="x"> <area>`: ALT is not alt, and an area is as an img
+    ∷ example (picturing Off)
+    (page ((0, plain "body") ∷ (1, tagged "img" ("ALT" is "x" ∷ [])) ∷ (1, words " ") ∷ (1, plain "area") ∷ []) [] 0)
+    (codes "[picture] [picture]") 5 19 19
+    -- `<tr><td>1</td><img></tr>`: hung on a cell's end it is lost, and counts in the need of work
+    ∷ example (picturing Off)
+    (page ((0, plain "body") ∷ (1, plain "tr") ∷ (2, plain "td") ∷ (3, words "1") ∷ (2, plain "img") ∷ []) [] 0)
+    (codes "1") 8 9 1
+    -- `<p><a href="u"><img></a></p>`, with links
+    ∷ example (withLinks true (picturing MinimalHtml))
+    (page ((0, plain "body") ∷ (1, plain "p") ∷ (2, tagged "a" ("href" is "u" ∷ [])) ∷ (3, plain "img") ∷ []) [] 0)
+    (codes "<p><a href=\"u\">[picture]</a></p>") 7 21 32
+    -- `<ul><li><img></li></ul>`
+    ∷ example (picturing Basic)
+    (page ((0, plain "body") ∷ (1, plain "ul") ∷ (2, plain "li") ∷ (3, plain "img") ∷ []) [] 0)
+    (codes "  " ++ (dot ++ codes " [picture]")) 7 9 15
     -- `a<!--b--><p>c</p><div>d</div>e`: a comment and a marked row
     ∷ example standing
     (page ((0, plain "body") ∷ (1, words "a") ∷ (1, remark "b") ∷ (1, plain "p") ∷ (2, words "c") ∷ (1, plain "div") ∷ (2, words "d") ∷ (1, words "e") ∷ []) (3 ∷ []) 0)

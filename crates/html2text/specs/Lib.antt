@@ -10,6 +10,7 @@ pub mod Examples
 pub mod Extract
 pub mod Fused
 pub mod Levels
+pub mod MissingAlt
 pub mod Pieces
 pub mod Promises
 pub mod Serialize

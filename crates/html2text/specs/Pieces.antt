@@ -8,7 +8,7 @@ use Rattle.tags.specs.Words.{is, oneOf, words}
 use Rattle.text.specs.Text.{trim, struck}
 use Rattle.tree.specs.Forest.{Forest, empty, node}
 use Rattle.tree.specs.Node.{element, text, comment, Node}
-use Rattle.html2text.specs.Collect.{attr, isUnshownType}
+use Rattle.html2text.specs.Collect.{attr, isUnshownType, altText}
 use Rattle.html2text.specs.Walk.{hasTrees, leftOut}
 
 -- the bytes of a piece, and the rows from its own up to the root
@@ -25,7 +25,7 @@ shownValue n =
 unfoldable pub elementPieces : ExtractOptions → Node → Bool → List Bytes
 elementPieces o n end =
     cond (o .links && is (n .name) "a") (cond end ((codes "(" ++ (trim (attr n (codes "href")) ++ codes ")")) ∷ []) [])
-    (cond (o .«alt_texts» && oneOf (n .name) (words "img area")) (attr n (codes "alt") ∷ [])
+    (cond (o .«alt_texts» && oneOf (n .name) (words "img area")) (altText o n ∷ [])
     (cond (o .«form_fields» && oneOf (n .name) (words "textarea button")) (cond end (codes "]") (codes "[") ∷ [])
     (cond (o .«form_fields» && (is (n .name) "input" && not (isUnshownType (trim (attr n (codes "type"))))))
     (cond (isEmpty (shownValue n)) [] ((codes "[" ++ (shownValue n ++ codes "]")) ∷ []))

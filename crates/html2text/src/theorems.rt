@@ -2,6 +2,7 @@
 ghost use Rattle.html2text.specs.Counts.{CountsAreRight};
 ghost use Rattle.html2text.specs.Encoded.{TextIsUtf8};
 ghost use Rattle.html2text.specs.Examples.{ExamplesAreRight};
+ghost use Rattle.html2text.specs.MissingAlt.{MissingAltRight};
 ghost use Rattle.html2text.specs.Promises.{AlikeRight, Demand3ForAll, PassesRight, WalkRight};
 
 pub fn theorems()
@@ -10,6 +11,7 @@ pub fn theorems()
     ensures alike { λ r. ⌜ AlikeRight ⌝ }
     ensures demand { λ r. ⌜ Demand3ForAll ⌝ }
     ensures encoding { λ r. ⌜ TextIsUtf8 ⌝ }
+    ensures missing_alt { λ r. ⌜ MissingAltRight ⌝ }
     ensures examples { λ r. ⌜ ExamplesAreRight ⌝ }
     ensures counts { λ r. ⌜ CountsAreRight ⌝ }
 {}

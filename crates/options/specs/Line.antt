@@ -1,4 +1,5 @@
--- The option line: "ten digits, formatting 0 to 2 in the order above, then nine 0 or 1, and LF" (document 01, "Pages and their texts").
+-- The option line: "ten digits, formatting 0 to 2 in the order above, then nine 0 or 1, and LF" (document 01, "Pages and their texts"), and
+-- missing_alt, "an eleventh digit of the program's line" (document 02, CR 4).
 use mathlib.Core.Bool.{Bool, true, _&&_, cond}
 use mathlib.Core.List.{[], _∷_}
 use Prim.Native.Nat.{ℕ, _-_}
@@ -7,6 +8,7 @@ use lib.ListN.{length, getD, take, drop}
 use Rattle.common.specs.Answer.{Answer, refused, written}
 use Rattle.common.specs.Bytes.{Bytes}
 use Rattle.common.specs.Refusals.{wrongOptions}
+use Rattle.options.specs.Options.{place, optionsBy}
 use Rattle.options.specs.declared.ExtractOptions.{ExtractOptions}
 use Rattle.options.specs.declared.Formatting.{Formatting}
 use Rattle.options.specs.declared.Formatting.the-variants.{Off, Basic, MinimalHtml}
@@ -15,7 +17,7 @@ use Rattle.options.specs.declared.line.OptionLine.the-variants.{Options,
 
 -- the digits and LF
 abbrev pub lineLength : ℕ
-lineLength = 11
+lineLength = 12
 
 abbrev pub isFormatting : ℕ → Bool
 isFormatting b = leb 48 b && leb b 50
@@ -40,19 +42,7 @@ abbrev pub flagAt : Bytes → ℕ → Bool
 flagAt s i = eqb (getD s i 0) 49
 
 unfoldable pub optionsIn : Bytes → ExtractOptions
-optionsIn s =
-    record {
-      formatting = formattingOf (getD s 0 0);
-      «main_content» = flagAt s 1;
-      «list_bullets» = flagAt s 2;
-      «alt_texts» = flagAt s 3;
-      links = flagAt s 4;
-      «form_fields» = flagAt s 5;
-      comments = flagAt s 6;
-      «post_meta» = flagAt s 7;
-      «hidden_elements» = flagAt s 8;
-      icons = flagAt s 9;
-    }
+optionsIn s = optionsBy (formattingOf (getD s 0 0)) (λ f. flagAt s (place f))
 
 -- what follows the line is not looked at
 abbrev pub lineOf : Bytes → OptionLine

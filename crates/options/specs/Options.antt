@@ -1,5 +1,7 @@
 -- The options of an extraction (document 01, "Options").
-use mathlib.Core.Bool.{Bool, true, false}
+use mathlib.Core.Bool.{Bool, true, false, cond}
+use Prim.Native.Nat.{ℕ}
+use lib.Dec.{eqb}
 use Rattle.options.specs.declared.ExtractOptions.{ExtractOptions}
 use Rattle.options.specs.declared.Formatting.{Formatting}
 use Rattle.options.specs.declared.Formatting.the-variants.{Off, Basic, MinimalHtml}
@@ -20,38 +22,90 @@ isMinimalHtml Off = false
 isMinimalHtml Basic = false
 isMinimalHtml MinimalHtml = true
 
--- "The standing options are those of `ExtractOptions::default`", and icons 0.
-abbrev pub standing : ExtractOptions
-standing = record { formatting = Basic; «main_content» = false; «list_bullets» = true; «alt_texts» = true; links = false; «form_fields» = false; comments = true; «post_meta» = true; «hidden_elements» = false; icons = false }
+-- ---- the options that are on or off
 
--- ---- the options with one field set
+pub data Flag : Type 0 where
+  main-content list-bullets alt-texts links form-fields comments post-meta hidden-elements icons missing-alt : Flag
+
+-- the place of its digit in the option line, behind formatting
+abbrev pub place : Flag → ℕ
+place main-content = 1
+place list-bullets = 2
+place alt-texts = 3
+place links = 4
+place form-fields = 5
+place comments = 6
+place post-meta = 7
+place hidden-elements = 8
+place icons = 9
+place missing-alt = 10
+
+abbrev pub isOn : ExtractOptions → Flag → Bool
+isOn o main-content = o .«main_content»
+isOn o list-bullets = o .«list_bullets»
+isOn o alt-texts = o .«alt_texts»
+isOn o links = o .links
+isOn o form-fields = o .«form_fields»
+isOn o comments = o .comments
+isOn o post-meta = o .«post_meta»
+isOn o hidden-elements = o .«hidden_elements»
+isOn o icons = o .icons
+isOn o missing-alt = o .«missing_alt»
+
+abbrev pub optionsBy : Formatting → (Flag → Bool) → ExtractOptions
+optionsBy formatting on =
+    record {
+      formatting = formatting;
+      «main_content» = on main-content;
+      «list_bullets» = on list-bullets;
+      «alt_texts» = on alt-texts;
+      links = on links;
+      «form_fields» = on form-fields;
+      comments = on comments;
+      «post_meta» = on post-meta;
+      «hidden_elements» = on hidden-elements;
+      icons = on icons;
+      «missing_alt» = on missing-alt;
+    }
+
+-- ---- the options with one set
 
 abbrev pub withFormatting : Formatting → ExtractOptions → ExtractOptions
-withFormatting f o = record { formatting = f; «main_content» = o .«main_content»; «list_bullets» = o .«list_bullets»; «alt_texts» = o .«alt_texts»; links = o .links; «form_fields» = o .«form_fields»; comments = o .comments; «post_meta» = o .«post_meta»; «hidden_elements» = o .«hidden_elements»; icons = o .icons }
+withFormatting f o = optionsBy f (isOn o)
+
+abbrev pub withFlag : Flag → Bool → ExtractOptions → ExtractOptions
+withFlag k b o = optionsBy (o .formatting) (λ f. cond (eqb (place f) (place k)) b (isOn o f))
 
 abbrev pub withMainContent : Bool → ExtractOptions → ExtractOptions
-withMainContent b o = record { formatting = o .formatting; «main_content» = b; «list_bullets» = o .«list_bullets»; «alt_texts» = o .«alt_texts»; links = o .links; «form_fields» = o .«form_fields»; comments = o .comments; «post_meta» = o .«post_meta»; «hidden_elements» = o .«hidden_elements»; icons = o .icons }
+withMainContent = withFlag main-content
 
 abbrev pub withListBullets : Bool → ExtractOptions → ExtractOptions
-withListBullets b o = record { formatting = o .formatting; «main_content» = o .«main_content»; «list_bullets» = b; «alt_texts» = o .«alt_texts»; links = o .links; «form_fields» = o .«form_fields»; comments = o .comments; «post_meta» = o .«post_meta»; «hidden_elements» = o .«hidden_elements»; icons = o .icons }
+withListBullets = withFlag list-bullets
 
 abbrev pub withAltTexts : Bool → ExtractOptions → ExtractOptions
-withAltTexts b o = record { formatting = o .formatting; «main_content» = o .«main_content»; «list_bullets» = o .«list_bullets»; «alt_texts» = b; links = o .links; «form_fields» = o .«form_fields»; comments = o .comments; «post_meta» = o .«post_meta»; «hidden_elements» = o .«hidden_elements»; icons = o .icons }
+withAltTexts = withFlag alt-texts
 
 abbrev pub withLinks : Bool → ExtractOptions → ExtractOptions
-withLinks b o = record { formatting = o .formatting; «main_content» = o .«main_content»; «list_bullets» = o .«list_bullets»; «alt_texts» = o .«alt_texts»; links = b; «form_fields» = o .«form_fields»; comments = o .comments; «post_meta» = o .«post_meta»; «hidden_elements» = o .«hidden_elements»; icons = o .icons }
+withLinks = withFlag links
 
 abbrev pub withFormFields : Bool → ExtractOptions → ExtractOptions
-withFormFields b o = record { formatting = o .formatting; «main_content» = o .«main_content»; «list_bullets» = o .«list_bullets»; «alt_texts» = o .«alt_texts»; links = o .links; «form_fields» = b; comments = o .comments; «post_meta» = o .«post_meta»; «hidden_elements» = o .«hidden_elements»; icons = o .icons }
+withFormFields = withFlag form-fields
 
 abbrev pub withComments : Bool → ExtractOptions → ExtractOptions
-withComments b o = record { formatting = o .formatting; «main_content» = o .«main_content»; «list_bullets» = o .«list_bullets»; «alt_texts» = o .«alt_texts»; links = o .links; «form_fields» = o .«form_fields»; comments = b; «post_meta» = o .«post_meta»; «hidden_elements» = o .«hidden_elements»; icons = o .icons }
+withComments = withFlag comments
 
 abbrev pub withPostMeta : Bool → ExtractOptions → ExtractOptions
-withPostMeta b o = record { formatting = o .formatting; «main_content» = o .«main_content»; «list_bullets» = o .«list_bullets»; «alt_texts» = o .«alt_texts»; links = o .links; «form_fields» = o .«form_fields»; comments = o .comments; «post_meta» = b; «hidden_elements» = o .«hidden_elements»; icons = o .icons }
+withPostMeta = withFlag post-meta
 
 abbrev pub withHiddenElements : Bool → ExtractOptions → ExtractOptions
-withHiddenElements b o = record { formatting = o .formatting; «main_content» = o .«main_content»; «list_bullets» = o .«list_bullets»; «alt_texts» = o .«alt_texts»; links = o .links; «form_fields» = o .«form_fields»; comments = o .comments; «post_meta» = o .«post_meta»; «hidden_elements» = b; icons = o .icons }
+withHiddenElements = withFlag hidden-elements
 
 abbrev pub withIcons : Bool → ExtractOptions → ExtractOptions
-withIcons b o = record { formatting = o .formatting; «main_content» = o .«main_content»; «list_bullets» = o .«list_bullets»; «alt_texts» = o .«alt_texts»; links = o .links; «form_fields» = o .«form_fields»; comments = o .comments; «post_meta» = o .«post_meta»; «hidden_elements» = o .«hidden_elements»; icons = b }
+withIcons = withFlag icons
+
+abbrev pub withMissingAlt : Bool → ExtractOptions → ExtractOptions
+withMissingAlt = withFlag missing-alt
+
+-- "The standing options are those of `ExtractOptions::default`", and our added ones off.
+abbrev pub standing : ExtractOptions
+standing = withListBullets true (withAltTexts true (withComments true (withPostMeta true (optionsBy Basic (λ f. false)))))

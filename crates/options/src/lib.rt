@@ -1,5 +1,5 @@
-// The options of an extraction (`ExtractOptions` of html2text.rs), without those that only shape selectors, and icons; and the line
-// that names them.
+// The options of an extraction (`ExtractOptions` of html2text.rs), without those that only shape selectors, and our icons and
+// missing_alt; and the line that names them.
 pub mod line;
 
 ghost use mathlib.Core.Path.{_≡_};
@@ -43,7 +43,7 @@ impl Formatting {
     }
 }
 
-// icons: false as the Rust, true private.
+// `icons`: false as the Rust, true private. `missing_alt`: whether a word stands for an alt that is absent.
 pub struct ExtractOptions {
     pub formatting: Formatting,
     pub main_content: bool,
@@ -55,6 +55,7 @@ pub struct ExtractOptions {
     pub post_meta: bool,
     pub hidden_elements: bool,
     pub icons: bool,
+    pub missing_alt: bool,
 }
 
 impl ExtractOptions {
@@ -73,6 +74,7 @@ impl ExtractOptions {
             post_meta: true,
             hidden_elements: false,
             icons: false,
+            missing_alt: false,
         }
     }
 }

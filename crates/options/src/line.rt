@@ -7,7 +7,7 @@ ghost use lib.ListN.{length};
 ghost use Rattle.options.specs.Line.{flagsRight, formattingOf, isFlag, isFormatting, lineLength, lineOf, lineRight, optionsIn};
 
 // The digits and LF.
-pub const LENGTH: usize = 11;
+pub const LENGTH: usize = 12;
 
 pub enum OptionLine {
     Options(ExtractOptions),
@@ -89,6 +89,7 @@ fn options_in(line: &[u8]) -> ExtractOptions
         post_meta: line[7] == 49,
         hidden_elements: line[8] == 49,
         icons: line[9] == 49,
+        missing_alt: line[10] == 49,
     }
 }
 

@@ -111,15 +111,15 @@ module _ (s : Bytes) (l : Layout) (o : ExtractOptions) (e : verdict s ≡ Sheet 
   walk : WalkOfTree page (rustHidden page o) (hidden leftOut page o) o
   walk = walk-of-tree page (rustHidden page o) (hidden leftOut page o) o (hides-rows page o) (page-right (accepts (lit≤ tt) e .1))
 
-  rust-text : o .icons ≡ false → (out work t : Bytes) → Gives filters s o out work t → t ≡ rustText page o
+  rust-text : o .icons ≡ false → o .«missing_alt» ≡ false → (out work t : Bytes) → Gives filters s o out work t → t ≡ rustText page o
   unfolding rustText
-  rust-text icons out work t g =
+  rust-text icons missing out work t g =
       let es = entries leftOut page o in
       let given = gives-text filters l e g in
       given .text
       ∙ ap finished (going-at (λ S. S ≡ rustState o es) (going-serialized o es) (given .run))
       ∙ ap (λ (so : Sofar). finished (rustState o (so .nodes))) (sym (walk .same))
-      ∙ ap (λ (a : ExtractOptions). finished (rustState a (rustLoop page a .nodes))) (rust-options o icons)
+      ∙ ap (λ (a : ExtractOptions). finished (rustState a (rustLoop page a .nodes))) (rust-options o icons missing)
 
   rust-answer : (out work : ℕ) → extractionOf s o out work ≡ loopExtraction page o out work
   unfolding extract.extractionOf extraction

@@ -1,5 +1,5 @@
 -- The Rust's loop hides what the filters leave out: the depth that it counts is the row's less that of the body.
-use mathlib.Core.Path.{_≡_, refl, sym, ap, _∙_}
+use mathlib.Core.Path.{_≡_, refl, sym, ap, ap₂, _∙_}
 use mathlib.Core.Bool.{Bool, false, _&&_, _||_, not}
 use mathlib.Core.List.{List, [], _∷_}
 use mathlib.Core.Option.{Option, none, some}
@@ -16,7 +16,7 @@ use Rattle.html2text.specs.Extract.{hidden, serialized}
 use Rattle.html2text.specs.Serialize.{State, step}
 use Rattle.html2text.specs.Theorems.{HidesRows}
 use Rattle.html2text.proofs.GoingLaws.{going-taken}
-use Rattle.options.specs.Options.{withIcons}
+use Rattle.options.specs.Options.{withIcons, withMissingAlt}
 use Rattle.options.specs.declared.ExtractOptions.{ExtractOptions}
 use Rattle.sheet.specs.Column.{parentOf}
 use Rattle.tree.specs.Page.{Page}
@@ -58,5 +58,5 @@ going-serialized o (e ∷ before) =
     (λ S a b q. ap taken q) (going-serialized o before)
 
 -- with our added option at 0 the options are the Rust's
-pub rust-options : (o : ExtractOptions) → o .icons ≡ false → o ≡ rustOptions o
-rust-options o e = ap (λ (b : Bool). withIcons b o) e
+pub rust-options : (o : ExtractOptions) → o .icons ≡ false → o .«missing_alt» ≡ false → o ≡ rustOptions o
+rust-options o icons missing = ap₂ (λ (b c : Bool). withMissingAlt c (withIcons b o)) icons missing

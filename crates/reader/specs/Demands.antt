@@ -59,7 +59,7 @@ loopExtraction p o out work =
 
 pub record AsTheRust (s : Bytes) (l : Layout) (o : ExtractOptions) : Type 0 where
   -- a text that is given is the Rust's, byte for byte
-  pub text : o .icons ≡ false → (out work t : Bytes) → Gives filters s o out work t → t ≡ rustText (pageOf s l) o
+  pub text : o .icons ≡ false → o .«missing_alt» ≡ false → (out work t : Bytes) → Gives filters s o out work t → t ≡ rustText (pageOf s l) o
   -- the whole answer, visits and refusals too, is that of the Rust's loop
   pub answer : (out work : ℕ) → extractionOf s o out work ≡ loopExtraction (pageOf s l) o out work
   -- `loop` makes 2·N passes at most: the Rust's has ended there, more passes change nothing

@@ -1,4 +1,4 @@
--- The pages of document 01, "Pages and their texts", that are marked to be proved: from sheet bytes to text.
+-- The pages of document 01, "Pages and their texts", that are marked to be proved, and three of document 02, CR 4: from sheet bytes to text.
 use mathlib.Core.Path.{_≡_}
 use mathlib.Core.Bool.{Bool, true, false, _&&_}
 use mathlib.Core.List.{List, [], _∷_, _++_}
@@ -8,7 +8,7 @@ use lib.Dec.{eqb}
 use lib.ListN.{length, take, replicate}
 use Rattle.common.specs.Bytes.{Bytes, codes, same}
 use Rattle.html2text.specs.Extract.{numbers}
-use Rattle.options.specs.Options.{standing, withFormatting, withMainContent, withLinks, withIcons}
+use Rattle.options.specs.Options.{standing, withFormatting, withMainContent, withLinks, withIcons, withMissingAlt}
 use Rattle.options.specs.declared.ExtractOptions.{ExtractOptions}
 use Rattle.options.specs.declared.Formatting.{Formatting}
 use Rattle.options.specs.declared.Formatting.the-variants.{Off, MinimalHtml}
@@ -79,6 +79,9 @@ linked = withLinks true standing
 abbrev mainContent : Bool → ExtractOptions
 mainContent icons = withMainContent true (withIcons icons standing)
 
+abbrev pictured : Bool → ExtractOptions
+pictured missing = withMissingAlt missing standing
+
 -- ---- the pages
 
 pub record Case : Type 0 where
@@ -126,6 +129,11 @@ cases =
     ∷ case (mainContent false) (body (element 1 "td" [] ∷ words 2 minus ∷ element 2 "b" [] ∷ words 3 (codes "0.4") ∷ [])) 8 (codes "0.4")
     ∷ case (mainContent true)
     (body (element 1 "td" [] ∷ words 2 minus ∷ element 2 "b" [] ∷ words 3 (codes "0.4") ∷ [])) 8 (minus ++ codes "0.4")
+    -- document 02, CR 4
+    ∷ case (pictured true) (body (words 1 (codes "a") ∷ element 1 "img" [] ∷ words 1 (codes "b") ∷ [])) 5 (codes "a[picture]b")
+    ∷ case (pictured false) (body (words 1 (codes "a") ∷ element 1 "img" [] ∷ words 1 (codes "b") ∷ [])) 5 (codes "ab")
+    ∷ case (pictured true)
+    (body (words 1 (codes "a") ∷ element 1 "img" (record { name = codes "alt"; value = [] } ∷ []) ∷ words 1 (codes "b") ∷ [])) 5 (codes "ab")
     ∷ []
 
 -- extracted with 100 bytes of out and work: number 0, the visits, and the text in out

@@ -12,7 +12,7 @@ use Rattle.html2text.specs.Collect.{Entry}
 use Rattle.html2text.specs.Extract.{finished}
 use Rattle.html2text.specs.Serialize.{State, start, step}
 use Rattle.html2text.specs.Walk.{Sofar, loop}
-use Rattle.options.specs.Options.{withIcons}
+use Rattle.options.specs.Options.{withIcons, withMissingAlt}
 use Rattle.options.specs.declared.ExtractOptions.{ExtractOptions}
 use Rattle.sheet.specs.Column.{parentOf}
 use Rattle.tree.specs.Page.{Page}
@@ -43,9 +43,9 @@ unfoldable pub rustState : ExtractOptions → List Entry → State
 rustState o [] = start
 rustState o (e ∷ before) = step (o .formatting) (o .«list_bullets») (e .node) (e .text) (rustState o before)
 
--- the options that the Rust has: our added one at 0
+-- the options that the Rust has: our added ones at 0
 abbrev pub rustOptions : ExtractOptions → ExtractOptions
-rustOptions = withIcons false
+rustOptions o = withMissingAlt false (withIcons false o)
 
 -- `Ok(serialize(nodes, opts))`, with the last `rstrip(&mut out)`
 unfoldable pub rustText : Page → ExtractOptions → Bytes

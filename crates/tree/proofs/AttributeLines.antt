@@ -12,7 +12,7 @@ use Rattle.sheet.specs.Verdict.{countsFrom}
 use Rattle.sheet.specs.declared.line.Attribute.{Attribute}
 use Rattle.sheet.specs.declared.line.Layout.{Layout}
 use Rattle.sheet.specs.declared.line.Row.{Row}
-use Rattle.tree.specs.Attributes.{nameAt, attributesFrom, findOf, valueIn, fromRange, attributeTo, attributeOf, numbers, values, rangeNumbers, rangeValues, rangeOf, attributeNumbers, attributeValues}
+use Rattle.tree.specs.Attributes.{nameAt, attributesFrom, findOf, valueIn, RangeInside, fromRange, attributeTo, attributeOf, numbers, values, rangeNumbers, rangeValues, rangeOf, attributeNumbers, attributeValues}
 use Rattle.tree.specs.Node.{attribute}
 use Rattle.tree.proofs.NodeLaws.{attribute-cons-here, attribute-cons-next}
 use Rattle.tree.proofs.QuestionsLaws.{asked-by-sheet}
@@ -98,6 +98,16 @@ module _ (s : Bytes) (l : Layout) where
 
   pub name-fits : {a : Attribute} → Accepted s l → (j : ℕ) → j < l .attributes → a ≡ attributeAt s l j → a .«name_at» + a .«name_len» ≤ l .pool
   name-fits p j h e = rw e (p .attribute-name j h .inside)
+
+-- a range that is found lies in the pool
+module _ {s : Bytes} {l : Layout} (accepted : Accepted s l) (name : Bytes) where
+  pub find-inside : (j n : ℕ) → j + n ≤ l .attributes → RangeInside l (findOf s l name j n)
+  unfolding findOf
+  find-inside j zero h = tt
+  find-inside j (suc n) h =
+      by-test (same (nameAt s l j) name)
+      (λ e. rw (find-here s l name j n e) (accepted .attribute-value j (omega arith) .inside))
+      (λ e. rw (find-next s l name j n e) (find-inside (suc j) n (omega arith)))
 
 -- the answer to a byte string, by what is asked
 module _ (s : Bytes) (row : ℕ) (name : Bytes) where

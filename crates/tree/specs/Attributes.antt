@@ -2,7 +2,7 @@
 use mathlib.Core.Bool.{true, false}
 use mathlib.Core.List.{List, [], _∷_}
 use mathlib.Core.Option.{Option, none, some}
-use Prim.Native.Nat.{ℕ, zero, suc}
+use Prim.Native.Nat.{ℕ, zero, suc, _+_, _≤_}
 use Rattle.common.specs.Answer.{Answer, refused, written}
 use Rattle.common.specs.Bytes.{Bytes, same}
 use Rattle.common.specs.Refusals.{noRow}
@@ -42,6 +42,11 @@ module _ (s : Bytes) (l : Layout) where
   abbrev pub valueIn : AttributeAt → Option Bytes
   valueIn Absent = none
   valueIn (At at len) = some (range s l at len)
+
+-- the range of an attribute that is there lies in the pool
+abbrev pub RangeInside : Layout → AttributeAt → Type 0
+RangeInside l Absent = Unit {0}
+RangeInside l (At at len) = at + len ≤ l .pool
 
 abbrev pub fromRange : AttributeAt → AttributeAnswer
 fromRange Absent = answer.the-variants.Absent

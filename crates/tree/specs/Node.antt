@@ -1,6 +1,6 @@
 -- What a row of a sheet says, with the bytes of its ranges (document 01, "The sheet").
 use mathlib.Core.Path.{_≡_}
-use mathlib.Core.Bool.{true, false}
+use mathlib.Core.Bool.{Bool, true, false}
 use mathlib.Core.List.{List, [], _∷_}
 use mathlib.Core.Option.{Option, none, some, Option·getD}
 use Prim.Native.Nat.{ℕ, _<_}
@@ -31,9 +31,17 @@ unfoldable pub attribute : List Attribute → Bytes → Option Bytes
 attribute [] name = none
 attribute (a ∷ attributes) name = elim (same (a .name) name) [ true ↦ some (a .value) | false ↦ attribute attributes name ]
 
--- "An absent attribute reads as empty."
+-- an empty attribute is there
+abbrev pub isThere : Option Bytes → Bool
+isThere none = false
+isThere (some value) = true
+
+-- "An absent attribute reads as empty.": for a caller that does not ask whether it is there
+abbrev pub orEmpty : Option Bytes → Bytes
+orEmpty value = Option·getD value []
+
 abbrev pub attributeOrEmpty : List Attribute → Bytes → Bytes
-attributeOrEmpty attributes name = Option·getD (attribute attributes name) []
+attributeOrEmpty attributes name = orEmpty (attribute attributes name)
 
 -- attribute number i is a, which has that name, and no earlier one has it
 pub record FirstOfName (attributes : List Attribute) (name : Bytes) (i : ℕ) (a : Attribute) : Type 0 where

@@ -1,4 +1,4 @@
-// One attribute of a row, by name.
+// One attribute of a row, by name. An absent one is told from an empty one; `or_empty` is for callers that do not ask.
 use crate::questions::Asked;
 use crate::questions::ask;
 use sheet::line::Layout;
@@ -10,7 +10,8 @@ ghost use mathlib.Core.Path.{_≡_};
 ghost use Prim.Native.Nat.{_+_, _≤_};
 ghost use Rattle.sheet.specs.Accepted.{Accepted};
 ghost use Rattle.sheet.specs.Verdict.{countsFrom};
-ghost use Rattle.tree.specs.Attributes.{attributeNumbers, attributeOf, attributeValues, findOf, fromRange, numbers, values};
+ghost use Rattle.tree.specs.Attributes.{attributeNumbers, attributeOf, attributeValues, findOf, fromRange, numbers, RangeInside, valueIn, values};
+ghost use Rattle.tree.specs.Node.{orEmpty};
 
 // Where the value of an attribute lies in the pool.
 pub enum AttributeAt {
@@ -42,6 +43,17 @@ pub fn find(s: &[u8], l: Layout, from: usize, count: usize, name: &[u8]) -> Attr
         j += 1;
     }
     AttributeAt::Absent
+}
+
+// "An absent attribute reads as empty."
+pub fn or_empty(s: &[u8], l: Layout, a: AttributeAt) -> &[u8]
+    requires { ⌜ Accepted (now s) l × RangeInside l a ⌝ }
+    ensures { λ r. ⌜ now r ≡ orEmpty (valueIn (now (s .entry)) l a) ⌝ }
+{
+    match a {
+        AttributeAt::Absent => part(s, l, 0, 0),
+        AttributeAt::At { at, len } => part(s, l, at, len),
+    }
 }
 
 // The first attribute line of row i.

@@ -25,12 +25,18 @@ pub fn unframed(bytes: &[u8]) -> Vec<&[u8]> {
 /// The digit of icons. Only 0 is the Rust's; built with ICONS it is 1, and the rule is that of oracle/rust/icons.diff.
 pub const ICONS: u8 = if option_env!("ICONS").is_some() { b'1' } else { b'0' };
 
-/// The options of ten digits and LF.
+/// The digit of missing_alt: the Rust has no other.
+pub const MISSING_ALT: u8 = b'0';
+
+/// The length of an option line: eleven digits and LF.
+pub const LINE: usize = 12;
+
+/// The options of a line; none where the Rust has not got them.
 pub fn options(line: &[u8]) -> Option<ExtractOptions> {
-    let [f, flags @ .., ICONS, b'\n'] = line else {
+    let [f, flags @ .., ICONS, MISSING_ALT, b'\n'] = line else {
         return None;
     };
-    if line.len() != 11 || flags.iter().any(|b| !matches!(b, b'0' | b'1')) {
+    if line.len() != LINE || flags.iter().any(|b| !matches!(b, b'0' | b'1')) {
         return None;
     }
     let on = |k: usize| flags[k] == b'1';
@@ -77,10 +83,10 @@ pub fn extracted(page: &Rc<Page>, opts: &ExtractOptions) -> Answer {
 }
 
 pub fn answer(case: &[u8]) -> Answer {
-    let Some(opts) = case.get(..11).and_then(options) else {
+    let Some(opts) = case.get(..LINE).and_then(options) else {
         return Answer::refused((33, 0));
     };
-    match sheet::read(&case[11..]) {
+    match sheet::read(&case[LINE..]) {
         Ok(page) => extracted(&page.shared(), &opts),
         Err(refusal) => Answer::refused(refusal),
     }
@@ -94,9 +100,9 @@ fn sum(text: &str) -> u64 {
 /// What the Rust takes out of a page by name, as oracle/marks.c tells it: how many rows it finds below the root that have no mark, and the
 /// rows that it finds or that have one; then visits, length and sum of the text.
 pub fn taken_out(case: &[u8], noscript: bool) -> String {
-    let mut opts = case.get(..11).and_then(options).expect("an option line");
+    let mut opts = case.get(..LINE).and_then(options).expect("an option line");
     opts.noscript = noscript;
-    let mut page = sheet::read(&case[11..]).expect("a sheet");
+    let mut page = sheet::read(&case[LINE..]).expect("a sheet");
     page.by_name = true;
     let page = page.shared();
     let Answer { numbers: [_, _, visits, length], text } = extracted(&page, &opts);

@@ -1,6 +1,6 @@
 //! Sheets for the comparison. A case is fixed by the seed and its number. Every sheet is an accepted one.
 
-use crate::cases::ICONS;
+use crate::cases::{ICONS, LINE, MISSING_ALT};
 use crate::random::Random;
 use crate::sheet;
 
@@ -163,10 +163,15 @@ fn mark(random: &mut Random, percent: usize, tree: &mut Tree) {
 
 // ---- options
 
-/// The 768 option lines with icons 0, or 1.
-fn option_line(k: usize) -> [u8; 11] {
-    let mut line = *b"0000000000\n";
-    line[9] = ICONS;
+/// The line with the digits that are the same in all cases.
+fn with_own_digits(mut line: [u8; LINE]) -> [u8; LINE] {
+    (line[9], line[10]) = (ICONS, MISSING_ALT);
+    line
+}
+
+/// The 768 option lines with icons 0, or 1, and missing_alt 0.
+fn option_line(k: usize) -> [u8; LINE] {
+    let mut line = with_own_digits(*b"00000000000\n");
     line[0] = b'0' + (k % 3) as u8;
     for j in 0..8 {
         line[1 + j] = b'0' + (k / 3 >> j & 1) as u8;
@@ -176,11 +181,11 @@ fn option_line(k: usize) -> [u8; 11] {
 
 const MAIN_CONTENT: usize = 1;
 
-fn any_options(random: &mut Random) -> [u8; 11] {
+fn any_options(random: &mut Random) -> [u8; LINE] {
     option_line(random.below(768))
 }
 
-fn main_content_options(random: &mut Random) -> [u8; 11] {
+fn main_content_options(random: &mut Random) -> [u8; LINE] {
     let mut line = any_options(random);
     if random.percent(90) {
         line[MAIN_CONTENT] = b'1';
@@ -599,12 +604,11 @@ fn pages_of(rows: usize) -> usize {
 }
 
 /// All pages of one and two rows below body under the options that matter without main_content, in an order that mixes them.
-fn smallest(k: usize) -> ([u8; 11], Vec<Tree>) {
+fn smallest(k: usize) -> ([u8; LINE], Vec<Tree>) {
     let total = 48 * (pages_of(1) + pages_of(2));
     let k = (k * 104729) % total;
     let (o, k) = (k % 48, k / 48);
-    let mut line = *b"1000001100\n";
-    line[9] = ICONS;
+    let mut line = with_own_digits(*b"10000011000\n");
     line[0] = b'0' + (o % 3) as u8;
     for j in 0..4 {
         line[2 + j] = b'0' + (o / 3 >> j & 1) as u8;
@@ -909,7 +913,7 @@ pub fn listed_case(seed: u64, number: u64) -> Vec<u8> {
     let mut case = case(seed, number);
     let random = &mut Random(!seed.wrapping_mul(0x2545F4914F6CDD1D) ^ number);
     random.next();
-    let sheet = &mut case[11..];
+    let sheet = &mut case[LINE..];
     let field = |at: usize, sheet: &[u8]| -> usize { std::str::from_utf8(&sheet[at..at + 8]).unwrap().trim_start().parse().unwrap() };
     let (rows, pool) = (field(0, sheet), field(16, sheet));
     let names = format!("{} {}", LISTED, NEARLY_LISTED);
@@ -926,7 +930,7 @@ pub fn listed_case(seed: u64, number: u64) -> Vec<u8> {
     }
     sheet[16..24].copy_from_slice(format!("{:8}", pool + names.len()).as_bytes());
     case.extend(names.as_bytes());
-    if let Err(refusal) = sheet::read(&case[11..]) {
+    if let Err(refusal) = sheet::read(&case[LINE..]) {
         panic!("case {}: {:?}", number, refusal);
     }
     case

@@ -1,11 +1,7 @@
 -- `add_element` meets its contract.
 use denote.Ref.{now}
-use mathlib.Core.Path.{sym, ap, _∙_}
-use mathlib.Core.Bool.{false}
-use Rattle.common.specs.Bytes.{Bytes, codes}
-use Rattle.serializer.specs.Progress.{readOf}
+use mathlib.Core.Path.{sym, _∙_}
 use Rattle.tree.specs.Page.{nodeAt}
-use Rattle.serializer.proofs.ShowingLaws.{ready-less}
 use Rattle.collect.proofs.AddedLaws.{element-break, element-link, element-alt, element-brackets, element-input, element-none}
 use Rattle.collect.proofs.PieceLaws.{show-same, shows-same, shows-nothing}
 use Rattle.collect.proofs.ReadLaws.{read-break, read-link, read-alt, read-brackets, read-input, read-none}
@@ -14,36 +10,118 @@ use Rattle.collect.proofs.added.add_element.Statement.{statement}
 use Rattle.collect.proofs.added.add_element.Tie as tie
 
 returns : tie.Need-returns
-returns c = shows-nothing (element-break (c .before .before .before .before .args .o) (nodeAt (now (c .before .before .before .before .args .s)) (c .before .before .before .before .args .l) (c .before .before .before .before .args .v .row)) (c .before .before .before .before .args .v .end) (c .before .before .before .before .pre .0 .tag-is) (sym (c .before .is-break .ensures) ∙ c .if1 .taken)) (read-break (c .before .before .before .before .args .o) (c .before .before .before .before .args .p .showing) (nodeAt (now (c .before .before .before .before .args .s)) (c .before .before .before .before .args .l) (c .before .before .before .before .args .v .row)) (c .before .before .before .before .args .v .end) (c .before .before .before .before .pre .0 .tag-is) (sym (c .before .is-break .ensures) ∙ c .if1 .taken)) (c .before .before .before .before .pre .1)
+returns c =
+    let start = c .before .before .before .before in
+    let n = nodeAt (now (start .args .s)) (start .args .l) (start .args .v .row) in
+    let b = sym (c .before .is-break .ensures) ∙ c .if1 .taken in
+    let text = element-break (start .args .o) n (start .args .v .end) (start .pre .0 .tag-is) b in
+    let read = read-break (start .args .o) (start .args .p .showing) n (start .args .v .end) (start .pre .0 .tag-is) b in
+    shows-nothing text read (start .pre .1)
 
 put-link-requires : tie.Need-put-link-requires
-put-link-requires c κs = (c .before .before .before .before .before .before .before .pre .0, show-same (element-link (c .before .before .before .before .before .before .before .args .o) (nodeAt (now (c .before .before .before .before .before .before .before .args .s)) (c .before .before .before .before .before .before .before .args .l) (c .before .before .before .before .before .before .before .args .v .row)) (c .before .before .before .before .before .before .before .args .v .end) (c .before .before .before .before .before .before .before .pre .0 .tag-is) (sym (c .before .before .before .before .is-break .ensures) ∙ c .before .before .before .if1 .left) (sym (c .before .before .is-link .ensures) ∙ c .before .if2 .taken)) (read-link (c .before .before .before .before .before .before .before .args .o) (c .before .before .before .before .before .before .before .args .p .showing) (nodeAt (now (c .before .before .before .before .before .before .before .args .s)) (c .before .before .before .before .before .before .before .args .l) (c .before .before .before .before .before .before .before .args .v .row)) (c .before .before .before .before .before .before .before .args .v .end) (c .before .before .before .before .before .before .before .pre .0 .tag-is) (sym (c .before .before .before .before .is-break .ensures) ∙ c .before .before .before .if1 .left) (sym (c .before .before .is-link .ensures) ∙ c .before .if2 .taken)) (c .before .before .before .before .before .before .before .pre .1))
+put-link-requires c κs =
+    let start = c .before .before .before .before .before .before .before in
+    let n = nodeAt (now (start .args .s)) (start .args .l) (start .args .v .row) in
+    let b = sym (c .before .before .before .before .is-break .ensures) ∙ c .before .before .before .if1 .left in
+    let l = sym (c .before .before .is-link .ensures) ∙ c .before .if2 .taken in
+    let text = element-link (start .args .o) n (start .args .v .end) (start .pre .0 .tag-is) b l in
+    let read = read-link (start .args .o) (start .args .p .showing) n (start .args .v .end) (start .pre .0 .tag-is) b l in
+    (start .pre .0, show-same text read (start .pre .1))
 
 returns-2 : tie.Need-returns-2
-returns-2 c = shows-same (element-link (c .before .before .before .before .before .before .before .before .before .before .args .o) (nodeAt (now (c .before .before .before .before .before .before .before .before .before .before .args .s)) (c .before .before .before .before .before .before .before .before .before .before .args .l) (c .before .before .before .before .before .before .before .before .before .before .args .v .row)) (c .before .before .before .before .before .before .before .before .before .before .args .v .end) (c .before .before .before .before .before .before .before .before .before .before .pre .0 .tag-is) (sym (c .before .before .before .before .before .before .before .is-break .ensures) ∙ c .before .before .before .before .before .before .if1 .left) (sym (c .before .before .before .before .before .is-link .ensures) ∙ c .before .before .before .before .if2 .taken)) (read-link (c .before .before .before .before .before .before .before .before .before .before .args .o) (c .before .before .before .before .before .before .before .before .before .before .args .p .showing) (nodeAt (now (c .before .before .before .before .before .before .before .before .before .before .args .s)) (c .before .before .before .before .before .before .before .before .before .before .args .l) (c .before .before .before .before .before .before .before .before .before .before .args .v .row)) (c .before .before .before .before .before .before .before .before .before .before .args .v .end) (c .before .before .before .before .before .before .before .before .before .before .pre .0 .tag-is) (sym (c .before .before .before .before .before .before .before .is-break .ensures) ∙ c .before .before .before .before .before .before .if1 .left) (sym (c .before .before .before .before .before .is-link .ensures) ∙ c .before .before .before .before .if2 .taken)) (c .before .before .put-link .ensures)
+returns-2 c =
+    let start = c .before .before .before .before .before .before .before .before .before .before in
+    let n = nodeAt (now (start .args .s)) (start .args .l) (start .args .v .row) in
+    let b = sym (c .before .before .before .before .before .before .before .is-break .ensures) ∙ c .before .before .before .before .before .before .if1 .left in
+    let l = sym (c .before .before .before .before .before .is-link .ensures) ∙ c .before .before .before .before .if2 .taken in
+    let text = element-link (start .args .o) n (start .args .v .end) (start .pre .0 .tag-is) b l in
+    let read = read-link (start .args .o) (start .args .p .showing) n (start .args .v .end) (start .pre .0 .tag-is) b l in
+    shows-same text read (c .before .before .put-link .ensures)
 
-show-requires : tie.Need-show-requires
-unfolding codes
-show-requires c κs = ready-less _ (show-same (element-alt (c .before .before .before .before .before .before .before .before .before .before .before .args .o) (nodeAt (now (c .before .before .before .before .before .before .before .before .before .before .before .args .s)) (c .before .before .before .before .before .before .before .before .before .before .before .args .l) (c .before .before .before .before .before .before .before .before .before .before .before .args .v .row)) (c .before .before .before .before .before .before .before .before .before .before .before .args .v .end) (c .before .before .before .before .before .before .before .before .before .before .before .pre .0 .tag-is) (sym (c .before .before .before .before .before .before .before .before .is-break .ensures) ∙ c .before .before .before .before .before .before .before .if1 .left) (sym (c .before .before .before .before .before .before .is-link .ensures) ∙ c .before .before .before .before .before .if2 .left) (sym (c .before .before .before .before .shows-alt .ensures) ∙ c .before .before .before .if3 .taken) ∙ sym (c .before .attribute-value .ensures)) (read-alt (c .before .before .before .before .before .before .before .before .before .before .before .args .o) (c .before .before .before .before .before .before .before .before .before .before .before .args .p .showing) (nodeAt (now (c .before .before .before .before .before .before .before .before .before .before .before .args .s)) (c .before .before .before .before .before .before .before .before .before .before .before .args .l) (c .before .before .before .before .before .before .before .before .before .before .before .args .v .row)) (c .before .before .before .before .before .before .before .before .before .before .before .args .v .end) (c .before .before .before .before .before .before .before .before .before .before .before .pre .0 .tag-is) (sym (c .before .before .before .before .before .before .before .before .is-break .ensures) ∙ c .before .before .before .before .before .before .before .if1 .left) (sym (c .before .before .before .before .before .before .is-link .ensures) ∙ c .before .before .before .before .before .if2 .left) (sym (c .before .before .before .before .shows-alt .ensures) ∙ c .before .before .before .if3 .taken) ∙ ap (λ (x : Bytes). readOf (c .before .before .before .before .before .before .before .before .before .before .before .args .p .showing) false x) (sym (c .before .attribute-value .ensures))) (c .before .before .before .before .before .before .before .before .before .before .before .pre .1))
+put-alt-requires : tie.Need-put-alt-requires
+put-alt-requires c κs =
+    let start = c .before .before .before .before .before .before .before .before .before in
+    let n = nodeAt (now (start .args .s)) (start .args .l) (start .args .v .row) in
+    let b = sym (c .before .before .before .before .before .before .is-break .ensures) ∙ c .before .before .before .before .before .if1 .left in
+    let l = sym (c .before .before .before .before .is-link .ensures) ∙ c .before .before .before .if2 .left in
+    let i = sym (c .before .before .shows-alt .ensures) ∙ c .before .if3 .taken in
+    let text = element-alt (start .args .o) n (start .args .v .end) (start .pre .0 .tag-is) b l i in
+    let read = read-alt (start .args .o) (start .args .p .showing) n (start .args .v .end) (start .pre .0 .tag-is) b l i in
+    (start .pre .0, show-same text read (start .pre .1))
 
 returns-3 : tie.Need-returns-3
-unfolding codes
-returns-3 c = shows-same (element-alt (c .before .before .before .before .before .before .before .before .before .before .before .before .before .before .args .o) (nodeAt (now (c .before .before .before .before .before .before .before .before .before .before .before .before .before .before .args .s)) (c .before .before .before .before .before .before .before .before .before .before .before .before .before .before .args .l) (c .before .before .before .before .before .before .before .before .before .before .before .before .before .before .args .v .row)) (c .before .before .before .before .before .before .before .before .before .before .before .before .before .before .args .v .end) (c .before .before .before .before .before .before .before .before .before .before .before .before .before .before .pre .0 .tag-is) (sym (c .before .before .before .before .before .before .before .before .before .before .before .is-break .ensures) ∙ c .before .before .before .before .before .before .before .before .before .before .if1 .left) (sym (c .before .before .before .before .before .before .before .before .before .is-link .ensures) ∙ c .before .before .before .before .before .before .before .before .if2 .left) (sym (c .before .before .before .before .before .before .before .shows-alt .ensures) ∙ c .before .before .before .before .before .before .if3 .taken) ∙ sym (c .before .before .before .before .attribute-value .ensures)) (read-alt (c .before .before .before .before .before .before .before .before .before .before .before .before .before .before .args .o) (c .before .before .before .before .before .before .before .before .before .before .before .before .before .before .args .p .showing) (nodeAt (now (c .before .before .before .before .before .before .before .before .before .before .before .before .before .before .args .s)) (c .before .before .before .before .before .before .before .before .before .before .before .before .before .before .args .l) (c .before .before .before .before .before .before .before .before .before .before .before .before .before .before .args .v .row)) (c .before .before .before .before .before .before .before .before .before .before .before .before .before .before .args .v .end) (c .before .before .before .before .before .before .before .before .before .before .before .before .before .before .pre .0 .tag-is) (sym (c .before .before .before .before .before .before .before .before .before .before .before .is-break .ensures) ∙ c .before .before .before .before .before .before .before .before .before .before .if1 .left) (sym (c .before .before .before .before .before .before .before .before .before .is-link .ensures) ∙ c .before .before .before .before .before .before .before .before .if2 .left) (sym (c .before .before .before .before .before .before .before .shows-alt .ensures) ∙ c .before .before .before .before .before .before .if3 .taken) ∙ ap (λ (x : Bytes). readOf (c .before .before .before .before .before .before .before .before .before .before .before .before .before .before .args .p .showing) false x) (sym (c .before .before .before .before .attribute-value .ensures))) (c .before .before .show .ensures)
+returns-3 c =
+    let start = c .before .before .before .before .before .before .before .before .before .before .before .before in
+    let n = nodeAt (now (start .args .s)) (start .args .l) (start .args .v .row) in
+    let b = sym (c .before .before .before .before .before .before .before .before .before .is-break .ensures) ∙ c .before .before .before .before .before .before .before .before .if1 .left in
+    let l = sym (c .before .before .before .before .before .before .before .is-link .ensures) ∙ c .before .before .before .before .before .before .if2 .left in
+    let i = sym (c .before .before .before .before .before .shows-alt .ensures) ∙ c .before .before .before .before .if3 .taken in
+    let text = element-alt (start .args .o) n (start .args .v .end) (start .pre .0 .tag-is) b l i in
+    let read = read-alt (start .args .o) (start .args .p .showing) n (start .args .v .end) (start .pre .0 .tag-is) b l i in
+    shows-same text read (c .before .before .put-alt .ensures)
 
 put-bracket-requires : tie.Need-put-bracket-requires
-put-bracket-requires c κs = show-same (element-brackets (c .before .before .before .before .before .before .before .before .before .before .before .args .o) (nodeAt (now (c .before .before .before .before .before .before .before .before .before .before .before .args .s)) (c .before .before .before .before .before .before .before .before .before .before .before .args .l) (c .before .before .before .before .before .before .before .before .before .before .before .args .v .row)) (c .before .before .before .before .before .before .before .before .before .before .before .args .v .end) (c .before .before .before .before .before .before .before .before .before .before .before .pre .0 .tag-is) (sym (c .before .before .before .before .before .before .before .before .is-break .ensures) ∙ c .before .before .before .before .before .before .before .if1 .left) (sym (c .before .before .before .before .before .before .is-link .ensures) ∙ c .before .before .before .before .before .if2 .left) (sym (c .before .before .before .before .shows-alt .ensures) ∙ c .before .before .before .if3 .left) (sym (c .before .before .shows-brackets .ensures) ∙ c .before .if4 .taken)) (read-brackets (c .before .before .before .before .before .before .before .before .before .before .before .args .o) (c .before .before .before .before .before .before .before .before .before .before .before .args .p .showing) (nodeAt (now (c .before .before .before .before .before .before .before .before .before .before .before .args .s)) (c .before .before .before .before .before .before .before .before .before .before .before .args .l) (c .before .before .before .before .before .before .before .before .before .before .before .args .v .row)) (c .before .before .before .before .before .before .before .before .before .before .before .args .v .end) (c .before .before .before .before .before .before .before .before .before .before .before .pre .0 .tag-is) (sym (c .before .before .before .before .before .before .before .before .is-break .ensures) ∙ c .before .before .before .before .before .before .before .if1 .left) (sym (c .before .before .before .before .before .before .is-link .ensures) ∙ c .before .before .before .before .before .if2 .left) (sym (c .before .before .before .before .shows-alt .ensures) ∙ c .before .before .before .if3 .left) (sym (c .before .before .shows-brackets .ensures) ∙ c .before .if4 .taken)) (c .before .before .before .before .before .before .before .before .before .before .before .pre .1)
+put-bracket-requires c κs =
+    let start = c .before .before .before .before .before .before .before .before .before .before .before in
+    let n = nodeAt (now (start .args .s)) (start .args .l) (start .args .v .row) in
+    let b = sym (c .before .before .before .before .before .before .before .before .is-break .ensures) ∙ c .before .before .before .before .before .before .before .if1 .left in
+    let l = sym (c .before .before .before .before .before .before .is-link .ensures) ∙ c .before .before .before .before .before .if2 .left in
+    let i = sym (c .before .before .before .before .shows-alt .ensures) ∙ c .before .before .before .if3 .left in
+    let k = sym (c .before .before .shows-brackets .ensures) ∙ c .before .if4 .taken in
+    let text = element-brackets (start .args .o) n (start .args .v .end) (start .pre .0 .tag-is) b l i k in
+    let read = read-brackets (start .args .o) (start .args .p .showing) n (start .args .v .end) (start .pre .0 .tag-is) b l i k in
+    show-same text read (start .pre .1)
 
 returns-4 : tie.Need-returns-4
-returns-4 c = shows-same (element-brackets (c .before .before .before .before .before .before .before .before .before .before .before .before .before .before .args .o) (nodeAt (now (c .before .before .before .before .before .before .before .before .before .before .before .before .before .before .args .s)) (c .before .before .before .before .before .before .before .before .before .before .before .before .before .before .args .l) (c .before .before .before .before .before .before .before .before .before .before .before .before .before .before .args .v .row)) (c .before .before .before .before .before .before .before .before .before .before .before .before .before .before .args .v .end) (c .before .before .before .before .before .before .before .before .before .before .before .before .before .before .pre .0 .tag-is) (sym (c .before .before .before .before .before .before .before .before .before .before .before .is-break .ensures) ∙ c .before .before .before .before .before .before .before .before .before .before .if1 .left) (sym (c .before .before .before .before .before .before .before .before .before .is-link .ensures) ∙ c .before .before .before .before .before .before .before .before .if2 .left) (sym (c .before .before .before .before .before .before .before .shows-alt .ensures) ∙ c .before .before .before .before .before .before .if3 .left) (sym (c .before .before .before .before .before .shows-brackets .ensures) ∙ c .before .before .before .before .if4 .taken)) (read-brackets (c .before .before .before .before .before .before .before .before .before .before .before .before .before .before .args .o) (c .before .before .before .before .before .before .before .before .before .before .before .before .before .before .args .p .showing) (nodeAt (now (c .before .before .before .before .before .before .before .before .before .before .before .before .before .before .args .s)) (c .before .before .before .before .before .before .before .before .before .before .before .before .before .before .args .l) (c .before .before .before .before .before .before .before .before .before .before .before .before .before .before .args .v .row)) (c .before .before .before .before .before .before .before .before .before .before .before .before .before .before .args .v .end) (c .before .before .before .before .before .before .before .before .before .before .before .before .before .before .pre .0 .tag-is) (sym (c .before .before .before .before .before .before .before .before .before .before .before .is-break .ensures) ∙ c .before .before .before .before .before .before .before .before .before .before .if1 .left) (sym (c .before .before .before .before .before .before .before .before .before .is-link .ensures) ∙ c .before .before .before .before .before .before .before .before .if2 .left) (sym (c .before .before .before .before .before .before .before .shows-alt .ensures) ∙ c .before .before .before .before .before .before .if3 .left) (sym (c .before .before .before .before .before .shows-brackets .ensures) ∙ c .before .before .before .before .if4 .taken)) (c .before .before .put-bracket .ensures)
+returns-4 c =
+    let start = c .before .before .before .before .before .before .before .before .before .before .before .before .before .before in
+    let n = nodeAt (now (start .args .s)) (start .args .l) (start .args .v .row) in
+    let b = sym (c .before .before .before .before .before .before .before .before .before .before .before .is-break .ensures) ∙ c .before .before .before .before .before .before .before .before .before .before .if1 .left in
+    let l = sym (c .before .before .before .before .before .before .before .before .before .is-link .ensures) ∙ c .before .before .before .before .before .before .before .before .if2 .left in
+    let i = sym (c .before .before .before .before .before .before .before .shows-alt .ensures) ∙ c .before .before .before .before .before .before .if3 .left in
+    let k = sym (c .before .before .before .before .before .shows-brackets .ensures) ∙ c .before .before .before .before .if4 .taken in
+    let text = element-brackets (start .args .o) n (start .args .v .end) (start .pre .0 .tag-is) b l i k in
+    let read = read-brackets (start .args .o) (start .args .p .showing) n (start .args .v .end) (start .pre .0 .tag-is) b l i k in
+    shows-same text read (c .before .before .put-bracket .ensures)
 
 put-input-requires : tie.Need-put-input-requires
-put-input-requires c κs = (c .before .before .before .before .before .before .before .before .before .before .before .before .before .pre .0, show-same (element-input (c .before .before .before .before .before .before .before .before .before .before .before .before .before .args .o) (nodeAt (now (c .before .before .before .before .before .before .before .before .before .before .before .before .before .args .s)) (c .before .before .before .before .before .before .before .before .before .before .before .before .before .args .l) (c .before .before .before .before .before .before .before .before .before .before .before .before .before .args .v .row)) (c .before .before .before .before .before .before .before .before .before .before .before .before .before .args .v .end) (c .before .before .before .before .before .before .before .before .before .before .before .before .before .pre .0 .tag-is) (sym (c .before .before .before .before .before .before .before .before .before .before .is-break .ensures) ∙ c .before .before .before .before .before .before .before .before .before .if1 .left) (sym (c .before .before .before .before .before .before .before .before .is-link .ensures) ∙ c .before .before .before .before .before .before .before .if2 .left) (sym (c .before .before .before .before .before .before .shows-alt .ensures) ∙ c .before .before .before .before .before .if3 .left) (sym (c .before .before .before .before .shows-brackets .ensures) ∙ c .before .before .before .if4 .left) (sym (c .before .before .shows-input .ensures) ∙ c .before .if5 .taken)) (read-input (c .before .before .before .before .before .before .before .before .before .before .before .before .before .args .o) (c .before .before .before .before .before .before .before .before .before .before .before .before .before .args .p .showing) (nodeAt (now (c .before .before .before .before .before .before .before .before .before .before .before .before .before .args .s)) (c .before .before .before .before .before .before .before .before .before .before .before .before .before .args .l) (c .before .before .before .before .before .before .before .before .before .before .before .before .before .args .v .row)) (c .before .before .before .before .before .before .before .before .before .before .before .before .before .args .v .end) (c .before .before .before .before .before .before .before .before .before .before .before .before .before .pre .0 .tag-is) (sym (c .before .before .before .before .before .before .before .before .before .before .is-break .ensures) ∙ c .before .before .before .before .before .before .before .before .before .if1 .left) (sym (c .before .before .before .before .before .before .before .before .is-link .ensures) ∙ c .before .before .before .before .before .before .before .if2 .left) (sym (c .before .before .before .before .before .before .shows-alt .ensures) ∙ c .before .before .before .before .before .if3 .left) (sym (c .before .before .before .before .shows-brackets .ensures) ∙ c .before .before .before .if4 .left) (sym (c .before .before .shows-input .ensures) ∙ c .before .if5 .taken)) (c .before .before .before .before .before .before .before .before .before .before .before .before .before .pre .1))
+put-input-requires c κs =
+    let start = c .before .before .before .before .before .before .before .before .before .before .before .before .before in
+    let n = nodeAt (now (start .args .s)) (start .args .l) (start .args .v .row) in
+    let b = sym (c .before .before .before .before .before .before .before .before .before .before .is-break .ensures) ∙ c .before .before .before .before .before .before .before .before .before .if1 .left in
+    let l = sym (c .before .before .before .before .before .before .before .before .is-link .ensures) ∙ c .before .before .before .before .before .before .before .if2 .left in
+    let i = sym (c .before .before .before .before .before .before .shows-alt .ensures) ∙ c .before .before .before .before .before .if3 .left in
+    let k = sym (c .before .before .before .before .shows-brackets .ensures) ∙ c .before .before .before .if4 .left in
+    let f = sym (c .before .before .shows-input .ensures) ∙ c .before .if5 .taken in
+    let text = element-input (start .args .o) n (start .args .v .end) (start .pre .0 .tag-is) b l i k f in
+    let read = read-input (start .args .o) (start .args .p .showing) n (start .args .v .end) (start .pre .0 .tag-is) b l i k f in
+    (start .pre .0, show-same text read (start .pre .1))
 
 returns-5 : tie.Need-returns-5
-returns-5 c = shows-same (element-input (c .before .before .before .before .before .before .before .before .before .before .before .before .before .before .before .before .args .o) (nodeAt (now (c .before .before .before .before .before .before .before .before .before .before .before .before .before .before .before .before .args .s)) (c .before .before .before .before .before .before .before .before .before .before .before .before .before .before .before .before .args .l) (c .before .before .before .before .before .before .before .before .before .before .before .before .before .before .before .before .args .v .row)) (c .before .before .before .before .before .before .before .before .before .before .before .before .before .before .before .before .args .v .end) (c .before .before .before .before .before .before .before .before .before .before .before .before .before .before .before .before .pre .0 .tag-is) (sym (c .before .before .before .before .before .before .before .before .before .before .before .before .before .is-break .ensures) ∙ c .before .before .before .before .before .before .before .before .before .before .before .before .if1 .left) (sym (c .before .before .before .before .before .before .before .before .before .before .before .is-link .ensures) ∙ c .before .before .before .before .before .before .before .before .before .before .if2 .left) (sym (c .before .before .before .before .before .before .before .before .before .shows-alt .ensures) ∙ c .before .before .before .before .before .before .before .before .if3 .left) (sym (c .before .before .before .before .before .before .before .shows-brackets .ensures) ∙ c .before .before .before .before .before .before .if4 .left) (sym (c .before .before .before .before .before .shows-input .ensures) ∙ c .before .before .before .before .if5 .taken)) (read-input (c .before .before .before .before .before .before .before .before .before .before .before .before .before .before .before .before .args .o) (c .before .before .before .before .before .before .before .before .before .before .before .before .before .before .before .before .args .p .showing) (nodeAt (now (c .before .before .before .before .before .before .before .before .before .before .before .before .before .before .before .before .args .s)) (c .before .before .before .before .before .before .before .before .before .before .before .before .before .before .before .before .args .l) (c .before .before .before .before .before .before .before .before .before .before .before .before .before .before .before .before .args .v .row)) (c .before .before .before .before .before .before .before .before .before .before .before .before .before .before .before .before .args .v .end) (c .before .before .before .before .before .before .before .before .before .before .before .before .before .before .before .before .pre .0 .tag-is) (sym (c .before .before .before .before .before .before .before .before .before .before .before .before .before .is-break .ensures) ∙ c .before .before .before .before .before .before .before .before .before .before .before .before .if1 .left) (sym (c .before .before .before .before .before .before .before .before .before .before .before .is-link .ensures) ∙ c .before .before .before .before .before .before .before .before .before .before .if2 .left) (sym (c .before .before .before .before .before .before .before .before .before .shows-alt .ensures) ∙ c .before .before .before .before .before .before .before .before .if3 .left) (sym (c .before .before .before .before .before .before .before .shows-brackets .ensures) ∙ c .before .before .before .before .before .before .if4 .left) (sym (c .before .before .before .before .before .shows-input .ensures) ∙ c .before .before .before .before .if5 .taken)) (c .before .before .put-input .ensures)
+returns-5 c =
+    let start = c .before .before .before .before .before .before .before .before .before .before .before .before .before .before .before .before in
+    let n = nodeAt (now (start .args .s)) (start .args .l) (start .args .v .row) in
+    let b = sym (c .before .before .before .before .before .before .before .before .before .before .before .before .before .is-break .ensures) ∙ c .before .before .before .before .before .before .before .before .before .before .before .before .if1 .left in
+    let l = sym (c .before .before .before .before .before .before .before .before .before .before .before .is-link .ensures) ∙ c .before .before .before .before .before .before .before .before .before .before .if2 .left in
+    let i = sym (c .before .before .before .before .before .before .before .before .before .shows-alt .ensures) ∙ c .before .before .before .before .before .before .before .before .if3 .left in
+    let k = sym (c .before .before .before .before .before .before .before .shows-brackets .ensures) ∙ c .before .before .before .before .before .before .if4 .left in
+    let f = sym (c .before .before .before .before .before .shows-input .ensures) ∙ c .before .before .before .before .if5 .taken in
+    let text = element-input (start .args .o) n (start .args .v .end) (start .pre .0 .tag-is) b l i k f in
+    let read = read-input (start .args .o) (start .args .p .showing) n (start .args .v .end) (start .pre .0 .tag-is) b l i k f in
+    shows-same text read (c .before .before .put-input .ensures)
 
 returns-6 : tie.Need-returns-6
-returns-6 c = shows-nothing (element-none (c .before .before .before .before .before .before .before .before .before .before .before .before .args .o) (nodeAt (now (c .before .before .before .before .before .before .before .before .before .before .before .before .args .s)) (c .before .before .before .before .before .before .before .before .before .before .before .before .args .l) (c .before .before .before .before .before .before .before .before .before .before .before .before .args .v .row)) (c .before .before .before .before .before .before .before .before .before .before .before .before .args .v .end) (c .before .before .before .before .before .before .before .before .before .before .before .before .pre .0 .tag-is) (sym (c .before .before .before .before .before .before .before .before .before .is-break .ensures) ∙ c .before .before .before .before .before .before .before .before .if1 .left) (sym (c .before .before .before .before .before .before .before .is-link .ensures) ∙ c .before .before .before .before .before .before .if2 .left) (sym (c .before .before .before .before .before .shows-alt .ensures) ∙ c .before .before .before .before .if3 .left) (sym (c .before .before .before .shows-brackets .ensures) ∙ c .before .before .if4 .left) (sym (c .before .shows-input .ensures) ∙ c .if5 .left)) (read-none (c .before .before .before .before .before .before .before .before .before .before .before .before .args .o) (c .before .before .before .before .before .before .before .before .before .before .before .before .args .p .showing) (nodeAt (now (c .before .before .before .before .before .before .before .before .before .before .before .before .args .s)) (c .before .before .before .before .before .before .before .before .before .before .before .before .args .l) (c .before .before .before .before .before .before .before .before .before .before .before .before .args .v .row)) (c .before .before .before .before .before .before .before .before .before .before .before .before .args .v .end) (c .before .before .before .before .before .before .before .before .before .before .before .before .pre .0 .tag-is) (sym (c .before .before .before .before .before .before .before .before .before .is-break .ensures) ∙ c .before .before .before .before .before .before .before .before .if1 .left) (sym (c .before .before .before .before .before .before .before .is-link .ensures) ∙ c .before .before .before .before .before .before .if2 .left) (sym (c .before .before .before .before .before .shows-alt .ensures) ∙ c .before .before .before .before .if3 .left) (sym (c .before .before .before .shows-brackets .ensures) ∙ c .before .before .if4 .left) (sym (c .before .shows-input .ensures) ∙ c .if5 .left)) (c .before .before .before .before .before .before .before .before .before .before .before .before .pre .1)
+returns-6 c =
+    let start = c .before .before .before .before .before .before .before .before .before .before .before .before in
+    let n = nodeAt (now (start .args .s)) (start .args .l) (start .args .v .row) in
+    let b = sym (c .before .before .before .before .before .before .before .before .before .is-break .ensures) ∙ c .before .before .before .before .before .before .before .before .if1 .left in
+    let l = sym (c .before .before .before .before .before .before .before .is-link .ensures) ∙ c .before .before .before .before .before .before .if2 .left in
+    let i = sym (c .before .before .before .before .before .shows-alt .ensures) ∙ c .before .before .before .before .if3 .left in
+    let k = sym (c .before .before .before .shows-brackets .ensures) ∙ c .before .before .if4 .left in
+    let f = sym (c .before .shows-input .ensures) ∙ c .if5 .left in
+    let text = element-none (start .args .o) n (start .args .v .end) (start .pre .0 .tag-is) b l i k f in
+    let read = read-none (start .args .o) (start .args .p .showing) n (start .args .v .end) (start .pre .0 .tag-is) b l i k f in
+    shows-nothing text read (start .pre .1)
 
 pub add-element-spec : {M : Type 1} → statement M
 add-element-spec =
@@ -56,9 +134,7 @@ add-element-spec =
     (λ c. search needs)
     returns-2
     (λ c κs. search needs)
-    (λ c. search needs)
-    (λ c κs. search needs)
-    show-requires
+    put-alt-requires
     (λ c. search needs)
     returns-3
     (λ c κs. search needs)

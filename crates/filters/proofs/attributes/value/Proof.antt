@@ -1,24 +1,23 @@
 -- `attributes::value` meets its contract.
+use mathlib.Core.Path.{ap, _∙_}
 use denote.Ref.{now}
-use Rattle.filters.proofs.AttributeLaws.{slot-at}
+use Rattle.tree.specs.Attributes.{valueIn}
+use Rattle.tree.specs.Node.{orEmpty}
+use Rattle.tree.specs.declared.attributes.AttributeAt.{AttributeAt}
+use Rattle.filters.proofs.AttributeLaws.{slot-inside}
 use borrow.Author.Needs.{needs}
 use Rattle.filters.proofs.attributes.value.Statement.{statement}
 use Rattle.filters.proofs.attributes.value.Tie as tie
 
-part-requires : tie.Need-part-requires
-part-requires c κs = search needs
+or-empty-requires : tie.Need-or-empty-requires
+or-empty-requires c κs =
+    let start = c .before .before in
+    (start .pre .0, slot-inside (start .args .l) (start .args .at) (start .args .len) (start .pre .1) (c .in-slot .ensures))
 
 returns : tie.Need-returns
-returns c = search needs
-
-sub-part : tie.Need-sub-part
-sub-part c = search needs
-
-part-requires-2 : tie.Need-part-requires-2
-part-requires-2 c κs = search needs
-
-returns-2 : tie.Need-returns-2
-returns-2 c = slot-at (now (c .before .before .before .args .s)) (c .before .before .before .args .l) (c .before .before .before .args .at) (c .before .before .before .args .len) (c .before .if1 .left) (c .part2 .ensures)
+returns c =
+    let start = c .before .before .before in
+    c .or-empty .ensures ∙ ap (λ (a : AttributeAt). orEmpty (valueIn (now (start .args .s)) (start .args .l) a)) (c .before .in-slot .ensures)
 
 pub value-spec : {M : Type 1} → statement M
-value-spec = tie.close (tie.spec part-requires returns sub-part part-requires-2 returns-2)
+value-spec = tie.close (tie.spec (λ c κs. search needs) or-empty-requires returns)

@@ -1,47 +1,45 @@
 -- `values::ad_attribute` meets its contract.
+use mathlib.Core.Path.{sym, _∙_}
+use native.Mathlib.Omega.{arith}
 use denote.Ref.{now}
 use Rattle.filters.specs.Filters.{adAttribute}
+use Rattle.filters.specs.Numbers as number
 use Rattle.common.proofs.TestLaws.{or-yes, or-no}
-use Rattle.filters.proofs.ValueLaws.{is-there, not-there, there-is}
-use borrow.Author.Needs.{needs}
+use Rattle.filters.proofs.ValueLaws.{there-is}
 use Rattle.filters.proofs.values.ad_attribute.Statement.{statement}
 use Rattle.filters.proofs.values.ad_attribute.Tie as tie
 
-element-copy-out-if1 : tie.Need-element-copy-out-if1
-element-copy-out-if1 c = search needs
-
 returns : tie.Need-returns
 unfolding adAttribute
-returns c = λ s l attributes lengths g. or-yes _ (is-there s l (now (c .before .before .args .starts)) lengths 10 (g .data-ad) (c .if1 .taken))
-
-element-copy-out-if2 : tie.Need-element-copy-out-if2
-element-copy-out-if2 c = search needs
+returns c =
+    let starts = now (c .before .before .args .starts) in
+    λ s l attributes lengths g.
+    or-yes _ (there-is s l starts lengths number.data-ad (g .data-ad) (c .before .is-there .ensures) ∙ c .if1 .taken)
 
 returns-2 : tie.Need-returns-2
 unfolding adAttribute
 returns-2 c =
+    let starts = now (c .before .before .before .before .args .starts) in
     λ s l attributes lengths g.
-    or-no _ (not-there s l (now (c .before .before .before .before .args .starts)) lengths 10 (g .data-ad) (c .before .before .if1 .left))
-    (or-yes _ (is-there s l (now (c .before .before .before .before .args .starts)) lengths 11 (g .data-advertisement) (c .if2 .taken)))
-
-element-copy-out-result : tie.Need-element-copy-out-result
-element-copy-out-result c = search needs
+    or-no _ (there-is s l starts lengths number.data-ad (g .data-ad) (c .before .before .before .is-there .ensures) ∙ c .before .before .if1 .left)
+    (or-yes _ (there-is s l starts lengths number.data-advertisement (g .data-advertisement) (c .before .is-there2 .ensures) ∙ c .if2 .taken))
 
 returns-3 : tie.Need-returns-3
 unfolding adAttribute
 returns-3 c =
+    let starts = now (c .before .before .before .before .before .args .starts) in
     λ s l attributes lengths g.
-    or-no _ (not-there s l (now (c .before .before .before .before .before .args .starts)) lengths 10 (g .data-ad) (c .before .before .before .if1 .left))
-    (or-no _ (not-there s l (now (c .before .before .before .before .before .args .starts)) lengths 11 (g .data-advertisement) (c .before .if2 .left))
-    (there-is s l (now (c .before .before .before .before .before .args .starts)) lengths 12 (g .data-text-ad)))
+    or-no _ (there-is s l starts lengths number.data-ad (g .data-ad) (c .before .before .before .before .is-there .ensures) ∙ c .before .before .before .if1 .left)
+    (or-no _ (there-is s l starts lengths number.data-advertisement (g .data-advertisement) (c .before .before .is-there2 .ensures) ∙ c .before .if2 .left)
+    (sym (there-is s l starts lengths number.data-text-ad (g .data-text-ad) (c .is-there3 .ensures))))
 
 pub ad-attribute-spec : {M : Type 1} → statement M
 ad-attribute-spec =
     tie.close
     (tie.spec
-    element-copy-out-if1
+    (λ c κs. omega arith)
     returns
-    element-copy-out-if2
+    (λ c κs. omega arith)
     returns-2
-    element-copy-out-result
+    (λ c κs. omega arith)
     returns-3)

@@ -9,6 +9,7 @@ use Rattle.html2text.proofs.ExampleLaws.{examples-are-right}
 use Rattle.html2text.proofs.FusionLaws.{fusion}
 use Rattle.html2text.proofs.LevelLaws.{step-levels}
 use Rattle.html2text.proofs.LevelMetLaws.{level-met}
+use Rattle.html2text.proofs.MissingAltLaws.{missing-alt-right}
 use Rattle.html2text.proofs.PageBounds.{events-bounded}
 use Rattle.html2text.proofs.PageLaws.{page-right}
 use Rattle.html2text.proofs.ShowingLaws.{shown-in-pieces, fed-in-two}
@@ -35,7 +36,7 @@ alike : AlikeRight
 alike = record { numbers = same-numbers; walk = same-walk; extraction = same-extraction; page = same-pages-alike; sheets = same-answers }
 
 returns : tie.Need-returns
-returns c = (walk, (passes, (alike, (demand-3, (text-is-utf8, (examples-are-right, counts-are-right))))))
+returns c = (walk, (passes, (alike, (demand-3, (text-is-utf8, (missing-alt-right, (examples-are-right, counts-are-right)))))))
 
 pub theorems-spec : {M : Type 1} → statement M
 theorems-spec = tie.close (tie.spec returns)
