@@ -49,7 +49,7 @@ extern "C" {
 #define LEVZHADA_NO_PATTERN 36     /* the pattern that is not there */
 
 /* The stack that a call takes, in bytes below its caller's frame: at most this. Measured and rounded up, not proved: tests/c/stack.c found
- * 378,984 for levzhada_extract from 257 rows on and 45,352 up to 256 rows, 21,912 for levzhada_matches, 4,600 for levzhada_measure and
+ * 379,000 for levzhada_extract from 257 rows on and 45,368 up to 256 rows, 21,912 for levzhada_matches, 4,600 for levzhada_measure and
  * 1,352 or less for the others. */
 #define LEVZHADA_STACK 393216       /* any call, any sheet */
 #define LEVZHADA_STACK_SMALL 65536  /* levzhada_extract, a sheet of up to 256 rows */

@@ -109,7 +109,7 @@ WRONG += [
     ("an svg or object too", SHOWS, "if o.alt_texts and (is_image(t) or o.missing_alt and one_of(n.name, words(\"svg object\"))):"),
     ("an IMG too", SHOWS, "if o.alt_texts and (is_image(t) or o.missing_alt and one_of(n.name.lower(), words(\"img area\"))):"),
     ("a missing href too", "return link_text(o.formatting, end, attr(n, \"href\"))", "return link_text(o.formatting, end, attr(n, \"href\") or missing_alt(o.missing_alt))"),
-    ("a missing value too", "return attr(n, \"placeholder\") if trim(attr(n, \"value\")) == b\"\"", "return (attr(n, \"placeholder\") or missing_alt(o.missing_alt)) if trim(attr(n, \"value\")) == b\"\""),
+    ("an input without value too", "return b\"\" if trim(field_value(n)) == b\"\"", "return missing_alt(o.missing_alt) if trim(field_value(n)) == b\"\""),
     ("the word with alt_texts off", SHOWS, "if is_image(t) and (o.alt_texts or o.missing_alt and %s):" % LACKS),
     ("all alts with alt_texts off", SHOWS, "if is_image(t) and (o.alt_texts or o.missing_alt):"),
     ("the word with missing_alt off", WORD, "return b\"[picture]\""),
@@ -127,7 +127,7 @@ WRONG += [
     ("the lost word is not counted in 31", "need = max([len(e.text) for e in entries] + [0])", "need = max([len(e.text) for e in entries if not (is_cell(e.node.tag) and e.node.end)] + [0])"),
     ("ten digits too", "all(b in b\"01\" for b in case[1:LINE - 1])", "all(b in b\"01\" for b in case[1:LINE - 1]) or case[10:11] == b\"\\n\" and case[0] in b\"012\" and all(b in b\"01\" for b in case[1:10])"),
     ("ten digits and a byte too", "all(b in b\"01\" for b in case[1:LINE - 1])", "all(b in b\"01\" for b in case[1:LINE - 2])"),
-    ("any byte for LF", "len(case) >= LINE and case[LINE - 1] == 10 and", "len(case) >= LINE and"),
+    ("CR for LF", "case[LINE - 1] == 10", "case[LINE - 1] in b\"\\n\\r\""),
 ]
 for word in "[picture", "picture]", "picture", "[Picture]", "[PICTURE]", "[image]", "[pictures]", "[picture] ", " [picture]", " [picture] ", "[ picture ]", "[picture]\\n":
     WRONG.append(("the word as %r" % word, WORD, "return b\"%s\" if on else b\"\"" % word))

@@ -56,7 +56,7 @@ pub extern "C" fn levzhada_check(sheet: &[u8]) -> Answer
     of_verdict(check(sheet))
 }
 
-// options: the option line, ten digits and LF; what follows it is not looked at.
+// options: the option line, eleven digits and LF; what follows it is not looked at.
 #[no_mangle]
 pub extern "C" fn levzhada_extract(
     sheet: &[u8],

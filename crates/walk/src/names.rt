@@ -27,8 +27,8 @@ fn length_if(name: &[u8], word: &[u8], len: usize, other: usize) -> usize
     other
 }
 
-// Of count attribute lines from line from on, class length + 1 + id length. From the last line to the first, so that the first of a name
-// counts.
+// Of count attribute lines from line from on, class length + 1 + id length; an absent one reads as empty. From the last line to the first,
+// so that the first of a name counts.
 fn class_and_id(s: &[u8], l: Layout, from: usize, count: usize) -> usize
     requires { ⌜ Accepted (now s) l × (from + count ≤ l .attributes) ⌝ }
     ensures { λ r. ⌜ r ≡ classAndId (attributesFrom (now (s .entry)) l from count) ⌝ }
