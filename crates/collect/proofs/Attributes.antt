@@ -31,7 +31,8 @@ module _ {s : Bytes} {l : Layout} {v : Visit} (p : Visits s l v) where
     pub range-inside : RangeInside l x
     range-inside =
         subst (RangeInside l) (sym x-is)
-        (find-inside (p .accepted) name (countsFrom s l 0 (v .row)) (rowAt s l (v .row) .attributes) (counts-fit s l (p .accepted) (v .row) (p .inside) refl))
+        (find-inside (p .accepted) name (countsFrom s l 0 (v .row)) (rowAt s l (v .row) .attributes)
+        (counts-fit s l (p .accepted) (v .row) (p .inside) refl))
 
     value-found : valueIn s l x ≡ attribute (nodeAt s l (v .row) .attributes) name
     value-found = ap (valueIn s l) x-is ∙ range-is-value s l (v .row) name

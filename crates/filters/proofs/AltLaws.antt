@@ -168,7 +168,8 @@ module _ (into : Node → Bool) (value : Bytes) where
 
   pub alt-filtered : (p : Page) (o : ExtractOptions) (on other : Bool) (i : ℕ)
       → filtered p (withMissingAlt on o) i
-      ≡ filtered (record { depths = p .depths; node = λ j. written (p .node j); marked = p .marked; root = p .root }) (withMissingAlt other o) i
+      ≡ filtered (record { depths = p .depths; node = λ j. written (p .node j); marked = p .marked; root = p .root })
+      (withMissingAlt other o) i
   alt-filtered p o on other i =
       missing-alt-unread p o on other i
       ∙ filtered-same p (λ j. written (p .node j)) (λ j. written-read-alike (p .node j)) (withMissingAlt other o) i

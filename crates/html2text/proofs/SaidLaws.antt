@@ -94,7 +94,8 @@ module _ (name value : Bytes) (attributes : List Attribute) where
       let t = tag-tests name in
       let shown = not (isUnshownType (trim (attr asElement (codes "type")))) in
       choose (isLink (off o) (tagOf name)) (o .links && is name "a") (and-same (o .links) (t .a)) (link-said end (trim (attr asElement (codes "href"))))
-      (choose (o .«alt_texts» && isImage (tagOf name)) (o .«alt_texts» && oneOf name (words "img area")) (and-same (o .«alt_texts») (t .image)) (says-one (altText o asElement))
+      (choose (o .«alt_texts» && isImage (tagOf name)) (o .«alt_texts» && oneOf name (words "img area")) (and-same (o .«alt_texts») (t .image))
+      (says-one (altText o asElement))
       (choose (o .«form_fields» && (isTextarea (tagOf name) || isButton (tagOf name))) (o .«form_fields» && oneOf name (words "textarea button")) (and-same (o .«form_fields») (bracketed name)) (bracket-said end)
       (choose (o .«form_fields» && (isInput (tagOf name) && shown)) (o .«form_fields» && (is name "input" && shown)) (and-same (o .«form_fields») (ap (λ (b : Bool). b && shown) (t .input))) (field-said asElement)
       says-none)))

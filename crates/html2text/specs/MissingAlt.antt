@@ -1,5 +1,5 @@
--- Document 02, CR 4, over every page: an absent alt reads as an empty one with missing_alt off, as "[picture]" with it on, and the option does
--- nothing else.
+-- Document 02, CR 4, over every page: an absent alt reads as an empty one with missing_alt off, as "[picture]" with it on, and the option
+-- does nothing else.
 use mathlib.Core.Path.{_≡_}
 use mathlib.Core.Bool.{Bool, false, _&&_, not, cond}
 use mathlib.Core.List.{[], _∷_}

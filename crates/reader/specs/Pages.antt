@@ -1,4 +1,5 @@
--- The pages of document 01, "Pages and their texts", that are marked to be proved, and three of document 02, CR 4: from sheet bytes to text.
+-- The pages of document 01, "Pages and their texts", that are marked to be proved, and three of document 02, CR 4: from sheet bytes to
+-- text.
 use mathlib.Core.Path.{_≡_}
 use mathlib.Core.Bool.{Bool, true, false, _&&_}
 use mathlib.Core.List.{List, [], _∷_, _++_}
@@ -133,7 +134,8 @@ cases =
     ∷ case (pictured true) (body (words 1 (codes "a") ∷ element 1 "img" [] ∷ words 1 (codes "b") ∷ [])) 5 (codes "a[picture]b")
     ∷ case (pictured false) (body (words 1 (codes "a") ∷ element 1 "img" [] ∷ words 1 (codes "b") ∷ [])) 5 (codes "ab")
     ∷ case (pictured true)
-    (body (words 1 (codes "a") ∷ element 1 "img" (record { name = codes "alt"; value = [] } ∷ []) ∷ words 1 (codes "b") ∷ [])) 5 (codes "ab")
+    (body (words 1 (codes "a") ∷ element 1 "img" (record { name = codes "alt"; value = [] } ∷ []) ∷ words 1 (codes "b") ∷ [])) 5
+    (codes "ab")
     ∷ []
 
 -- extracted with 100 bytes of out and work: number 0, the visits, and the text in out

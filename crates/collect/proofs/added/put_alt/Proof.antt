@@ -13,35 +13,48 @@ use Rattle.collect.proofs.added.put_alt.Tie as tie
 put-missing-alt-requires : tie.Need-put-missing-alt-requires
 unfolding codes
 put-missing-alt-requires c κs =
-    let start = c .before .before .before .before .before .before .before in
-    let absent = alt-absent (start .pre .0) (c .before .before .before .attribute .ensures) (start .args .o) (c .before .enum-told .given .1) in
+    let told = c .before in
+    let asked = told .before .before in
+    let start = asked .before .before .before .before in
+    let absent = alt-absent (start .pre .0) (asked .attribute .ensures) (start .args .o) (told .enum-told .given .1) in
     show-same absent (ap (λ (t : Bytes). readOf (start .args .p .showing) false t) absent) (start .pre .1)
 
 part-requires : tie.Need-part-requires
 part-requires c κs =
-    let start = c .before .before .before .before .before .before .before in
-    (start .pre .0 .accepted .lined, inside-at (start .pre .0) _ (c .before .before .before .attribute .ensures) (c .before .at .given .1))
+    let told = c .before in
+    let asked = told .before .before in
+    let start = asked .before .before .before .before in
+    (start .pre .0 .accepted .lined, inside-at (start .pre .0) _ (asked .attribute .ensures) (told .at .given .1))
 
 show-requires : tie.Need-show-requires
 unfolding codes
 show-requires c κs =
-    let start = c .before .before .before .before .before .before .before .before .before in
-    let there = alt-at (start .pre .0) (c .before .before .before .before .before .attribute .ensures) (start .args .o) (c .before .before .before .at .given .1) (c .before .part .ensures) in
+    let told = c .before .before .before in
+    let asked = told .before .before in
+    let start = asked .before .before .before .before in
+    let there = alt-at (start .pre .0) (asked .attribute .ensures) (start .args .o) (told .at .given .1) (c .before .part .ensures) in
     ready-less _ (show-same there (ap (λ (t : Bytes). readOf (start .args .p .showing) false t) there) (start .pre .1))
 
 returns : tie.Need-returns
 unfolding codes
 returns c =
-    let start = c .before .before .before .before .before .before .before .before .before .before in
-    let absent = alt-absent (start .pre .0) (c .before .before .before .before .before .before .attribute .ensures) (start .args .o) (c .before .before .before .before .enum-told .given .1) in
-    shows-same absent (ap (λ (t : Bytes). readOf (start .args .p .showing) false t) absent) (c .before .before .put-missing-alt .ensures)
+    let put = c .before .before in
+    let told = put .before .before in
+    let asked = told .before .before in
+    let start = asked .before .before .before .before in
+    let absent = alt-absent (start .pre .0) (asked .attribute .ensures) (start .args .o) (told .enum-told .given .1) in
+    shows-same absent (ap (λ (t : Bytes). readOf (start .args .p .showing) false t) absent) (put .put-missing-alt .ensures)
 
 returns-2 : tie.Need-returns-2
 unfolding codes
 returns-2 c =
-    let start = c .before .before .before .before .before .before .before .before .before .before .before .before in
-    let there = alt-at (start .pre .0) (c .before .before .before .before .before .before .before .before .attribute .ensures) (start .args .o) (c .before .before .before .before .before .before .at .given .1) (c .before .before .before .before .part .ensures) in
-    shows-same there (ap (λ (t : Bytes). readOf (start .args .p .showing) false t) there) (c .before .before .show .ensures)
+    let put = c .before .before in
+    let taken = put .before .before in
+    let told = taken .before .before in
+    let asked = told .before .before in
+    let start = asked .before .before .before .before in
+    let there = alt-at (start .pre .0) (asked .attribute .ensures) (start .args .o) (told .at .given .1) (taken .part .ensures) in
+    shows-same there (ap (λ (t : Bytes). readOf (start .args .p .showing) false t) there) (put .show .ensures)
 
 pub put-alt-spec : {M : Type 1} → statement M
 put-alt-spec =

@@ -11,27 +11,60 @@ use Rattle.collect.proofs.added.put_link.Tie as tie
 
 put-address-requires : tie.Need-put-address-requires
 unfolding codes
-put-address-requires c κs = show-same (link-off _ _ (c .before .before .before .trim .ensures ∙ ap trim (c .before .before .before .before .attribute-or-empty .ensures)) (c .before .enum-told .given .1)) (link-read-off _ _ _ (c .before .before .before .trim .ensures ∙ ap trim (c .before .before .before .before .attribute-or-empty .ensures)) (c .before .enum-told .given .1)) (c .before .before .before .before .before .before .before .before .pre .1)
+put-address-requires c κs =
+    let told = c .before in
+    let trimmed = told .before .before in
+    let f = told .enum-told .given .1 in
+    let href = trimmed .trim .ensures ∙ ap trim (trimmed .before .attribute-or-empty .ensures) in
+    show-same (link-off _ _ href f) (link-read-off _ _ _ href f) (trimmed .before .before .before .before .before .pre .1)
 
 put-address-requires-2 : tie.Need-put-address-requires-2
 unfolding codes
-put-address-requires-2 c κs = show-same (link-basic _ _ (c .before .before .before .trim .ensures ∙ ap trim (c .before .before .before .before .attribute-or-empty .ensures)) (c .before .enum-told2 .given .1)) (link-read-basic _ _ _ (c .before .before .before .trim .ensures ∙ ap trim (c .before .before .before .before .attribute-or-empty .ensures)) (c .before .enum-told2 .given .1)) (c .before .before .before .before .before .before .before .before .pre .1)
+put-address-requires-2 c κs =
+    let told = c .before in
+    let trimmed = told .before .before in
+    let f = told .enum-told2 .given .1 in
+    let href = trimmed .trim .ensures ∙ ap trim (trimmed .before .attribute-or-empty .ensures) in
+    show-same (link-basic _ _ href f) (link-read-basic _ _ _ href f) (trimmed .before .before .before .before .before .pre .1)
 
 put-link-tag-requires : tie.Need-put-link-tag-requires
 unfolding codes
-put-link-tag-requires c κs = show-same (link-html _ _ (c .before .before .before .trim .ensures ∙ ap trim (c .before .before .before .before .attribute-or-empty .ensures)) (c .before .enum-told3 .given .1)) (link-read-html _ _ _ (c .before .before .before .trim .ensures ∙ ap trim (c .before .before .before .before .attribute-or-empty .ensures)) (c .before .enum-told3 .given .1)) (c .before .before .before .before .before .before .before .before .pre .1)
+put-link-tag-requires c κs =
+    let told = c .before in
+    let trimmed = told .before .before in
+    let f = told .enum-told3 .given .1 in
+    let href = trimmed .trim .ensures ∙ ap trim (trimmed .before .attribute-or-empty .ensures) in
+    show-same (link-html _ _ href f) (link-read-html _ _ _ href f) (trimmed .before .before .before .before .before .pre .1)
 
 returns : tie.Need-returns
 unfolding codes
-returns c = shows-same (link-off _ _ (c .before .before .before .before .before .before .trim .ensures ∙ ap trim (c .before .before .before .before .before .before .before .attribute-or-empty .ensures)) (c .before .before .before .before .enum-told .given .1)) (link-read-off _ _ _ (c .before .before .before .before .before .before .trim .ensures ∙ ap trim (c .before .before .before .before .before .before .before .attribute-or-empty .ensures)) (c .before .before .before .before .enum-told .given .1)) (c .before .before .put-address .ensures)
+returns c =
+    let put = c .before .before in
+    let told = put .before .before in
+    let trimmed = told .before .before in
+    let f = told .enum-told .given .1 in
+    let href = trimmed .trim .ensures ∙ ap trim (trimmed .before .attribute-or-empty .ensures) in
+    shows-same (link-off _ _ href f) (link-read-off _ _ _ href f) (put .put-address .ensures)
 
 returns-2 : tie.Need-returns-2
 unfolding codes
-returns-2 c = shows-same (link-basic _ _ (c .before .before .before .before .before .before .trim .ensures ∙ ap trim (c .before .before .before .before .before .before .before .attribute-or-empty .ensures)) (c .before .before .before .before .enum-told2 .given .1)) (link-read-basic _ _ _ (c .before .before .before .before .before .before .trim .ensures ∙ ap trim (c .before .before .before .before .before .before .before .attribute-or-empty .ensures)) (c .before .before .before .before .enum-told2 .given .1)) (c .before .before .put-address2 .ensures)
+returns-2 c =
+    let put = c .before .before in
+    let told = put .before .before in
+    let trimmed = told .before .before in
+    let f = told .enum-told2 .given .1 in
+    let href = trimmed .trim .ensures ∙ ap trim (trimmed .before .attribute-or-empty .ensures) in
+    shows-same (link-basic _ _ href f) (link-read-basic _ _ _ href f) (put .put-address2 .ensures)
 
 returns-3 : tie.Need-returns-3
 unfolding codes
-returns-3 c = shows-same (link-html _ _ (c .before .before .before .before .before .before .trim .ensures ∙ ap trim (c .before .before .before .before .before .before .before .attribute-or-empty .ensures)) (c .before .before .before .before .enum-told3 .given .1)) (link-read-html _ _ _ (c .before .before .before .before .before .before .trim .ensures ∙ ap trim (c .before .before .before .before .before .before .before .attribute-or-empty .ensures)) (c .before .before .before .before .enum-told3 .given .1)) (c .before .before .put-link-tag .ensures)
+returns-3 c =
+    let put = c .before .before in
+    let told = put .before .before in
+    let trimmed = told .before .before in
+    let f = told .enum-told3 .given .1 in
+    let href = trimmed .trim .ensures ∙ ap trim (trimmed .before .attribute-or-empty .ensures) in
+    shows-same (link-html _ _ href f) (link-read-html _ _ _ href f) (put .put-link-tag .ensures)
 
 pub put-link-spec : {M : Type 1} → statement M
 put-link-spec =

@@ -17,20 +17,23 @@ unfolding codes
 show-requires c κs =
     let start = c .before .before .before .before in
     let on = c .before .before .if1 .taken in
-    ready-less _ (show-same (ap missingAlt on) (ap (λ (b : Bool). readOf (start .args .p .showing) false (missingAlt b)) on) (start .pre))
+    let read = ap (λ (b : Bool). readOf (start .args .p .showing) false (missingAlt b)) on in
+    ready-less _ (show-same (ap missingAlt on) read (start .pre))
 
 returns : tie.Need-returns
 unfolding codes
 returns c =
     let start = c .before .before .before .before .before .before .before in
     let on = c .before .before .before .before .before .if1 .taken in
-    shows-same (ap missingAlt on) (ap (λ (b : Bool). readOf (start .args .p .showing) false (missingAlt b)) on) (c .before .before .show .ensures)
+    let read = ap (λ (b : Bool). readOf (start .args .p .showing) false (missingAlt b)) on in
+    shows-same (ap missingAlt on) read (c .before .before .show .ensures)
 
 returns-2 : tie.Need-returns-2
 returns-2 c =
     let start = c .before .before in
     let off = c .if1 .left in
-    shows-nothing (ap missingAlt off) (ap (λ (b : Bool). readOf (start .args .p .showing) false (missingAlt b)) off ∙ read-empty (start .args .p .showing) false [] refl) (start .pre)
+    let read = ap (λ (b : Bool). readOf (start .args .p .showing) false (missingAlt b)) off in
+    shows-nothing (ap missingAlt off) (read ∙ read-empty (start .args .p .showing) false [] refl) (start .pre)
 
 pub put-missing-alt-spec : {M : Type 1} → statement M
 put-missing-alt-spec = tie.close (tie.spec (λ c. search needs) show-requires (λ c. search needs) returns returns-2)

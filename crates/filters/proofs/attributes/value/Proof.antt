@@ -1,6 +1,7 @@
 -- `attributes::value` meets its contract.
 use mathlib.Core.Path.{ap, _∙_}
 use denote.Ref.{now}
+use Rattle.common.specs.Bytes.{Bytes}
 use Rattle.tree.specs.Attributes.{valueIn}
 use Rattle.tree.specs.Node.{orEmpty}
 use Rattle.tree.specs.declared.attributes.AttributeAt.{AttributeAt}
@@ -17,7 +18,8 @@ or-empty-requires c κs =
 returns : tie.Need-returns
 returns c =
     let start = c .before .before .before in
-    c .or-empty .ensures ∙ ap (λ (a : AttributeAt). orEmpty (valueIn (now (start .args .s)) (start .args .l) a)) (c .before .in-slot .ensures)
+    let read : AttributeAt → Bytes = λ a. orEmpty (valueIn (now (start .args .s)) (start .args .l) a) in
+    c .or-empty .ensures ∙ ap read (c .before .in-slot .ensures)
 
 pub value-spec : {M : Type 1} → statement M
 value-spec = tie.close (tie.spec (λ c κs. search needs) or-empty-requires returns)

@@ -12,25 +12,32 @@ use Rattle.filters.proofs.values.ad_attribute.Tie as tie
 returns : tie.Need-returns
 unfolding adAttribute
 returns c =
-    let starts = now (c .before .before .args .starts) in
+    let t1 = c in
+    let starts = now (t1 .before .before .args .starts) in
     λ s l attributes lengths g.
-    or-yes _ (there-is s l starts lengths number.data-ad (g .data-ad) (c .before .is-there .ensures) ∙ c .if1 .taken)
+    or-yes _ (there-is s l starts lengths number.data-ad (g .data-ad) (t1 .before .is-there .ensures) ∙ t1 .if1 .taken)
 
 returns-2 : tie.Need-returns-2
 unfolding adAttribute
 returns-2 c =
-    let starts = now (c .before .before .before .before .args .starts) in
+    let t2 = c in
+    let t1 = t2 .before .before in
+    let starts = now (t1 .before .before .args .starts) in
     λ s l attributes lengths g.
-    or-no _ (there-is s l starts lengths number.data-ad (g .data-ad) (c .before .before .before .is-there .ensures) ∙ c .before .before .if1 .left)
-    (or-yes _ (there-is s l starts lengths number.data-advertisement (g .data-advertisement) (c .before .is-there2 .ensures) ∙ c .if2 .taken))
+    or-no _ (there-is s l starts lengths number.data-ad (g .data-ad) (t1 .before .is-there .ensures) ∙ t1 .if1 .left)
+    (or-yes _
+    (there-is s l starts lengths number.data-advertisement (g .data-advertisement) (t2 .before .is-there2 .ensures) ∙ t2 .if2 .taken))
 
 returns-3 : tie.Need-returns-3
 unfolding adAttribute
 returns-3 c =
-    let starts = now (c .before .before .before .before .before .args .starts) in
+    let t2 = c .before in
+    let t1 = t2 .before .before in
+    let starts = now (t1 .before .before .args .starts) in
     λ s l attributes lengths g.
-    or-no _ (there-is s l starts lengths number.data-ad (g .data-ad) (c .before .before .before .before .is-there .ensures) ∙ c .before .before .before .if1 .left)
-    (or-no _ (there-is s l starts lengths number.data-advertisement (g .data-advertisement) (c .before .before .is-there2 .ensures) ∙ c .before .if2 .left)
+    or-no _ (there-is s l starts lengths number.data-ad (g .data-ad) (t1 .before .is-there .ensures) ∙ t1 .if1 .left)
+    (or-no _
+    (there-is s l starts lengths number.data-advertisement (g .data-advertisement) (t2 .before .is-there2 .ensures) ∙ t2 .if2 .left)
     (sym (there-is s l starts lengths number.data-text-ad (g .data-text-ad) (c .is-there3 .ensures))))
 
 pub ad-attribute-spec : {M : Type 1} → statement M

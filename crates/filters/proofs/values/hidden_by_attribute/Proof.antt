@@ -1,4 +1,4 @@
--- `values::hidden_by_attribute` meets its contract.
+-- `values::hidden_by_attribute` meets its contract. The tests before are t1 to t4.
 use mathlib.Core.Path.{refl, sym, _∙_}
 use native.Mathlib.Omega.{arith}
 use denote.Ref.{now}
@@ -15,82 +15,110 @@ use Rattle.filters.proofs.values.hidden_by_attribute.Tie as tie
 returns : tie.Need-returns
 unfolding hiddenByAttribute
 returns c =
-    let start = c .before .before .before in
+    let t1 = c in
+    let start = t1 .before .before .before in
     let s = now (start .args .s) in
     let l = start .args .l in
     let starts = now (start .args .starts) in
     let lengths = now (start .args .lengths) in
     λ attributes g.
-    or-yes _ (there-is s l starts lengths number.hidden (g .hidden) (c .before .is-there .ensures) ∙ c .if1 .taken)
+    or-yes _ (there-is s l starts lengths number.hidden (g .hidden) (t1 .before .is-there .ensures) ∙ t1 .if1 .taken)
 
 among-requires : tie.Need-among-requires
 unfolding words firstWord otherWords codes oneOf same
-among-requires c κs = let start = c .before .before .before .before in (start .pre .0, start .pre .1, omega arith, refl)
+among-requires c κs =
+    let start = c .before .before .before .before in
+    (start .pre .0, start .pre .1, omega arith, refl)
 
 returns-2 : tie.Need-returns-2
 unfolding hiddenByAttribute words codes
 returns-2 c =
-    let start = c .before .before .before .before .before .before in
+    let t2 = c in
+    let t1 = t2 .before .before .before in
+    let start = t1 .before .before .before in
     let s = now (start .args .s) in
     let l = start .args .l in
     let starts = now (start .args .starts) in
     let lengths = now (start .args .lengths) in
     λ attributes g.
-    or-no _ (there-is s l starts lengths number.hidden (g .hidden) (c .before .before .before .before .is-there .ensures) ∙ c .before .before .before .if1 .left)
-    (or-yes _ (sym (among-held s l starts lengths number.rel (g .rel) (words "author icon search prev next tag") (c .before .among .ensures)) ∙ c .if2 .taken))
+    or-no _ (there-is s l starts lengths number.hidden (g .hidden) (t1 .before .is-there .ensures) ∙ t1 .if1 .left)
+    (or-yes _ (sym (among-held s l starts lengths number.rel (g .rel) (words "author icon search prev next tag") (t2 .before .among .ensures)) ∙ t2 .if2 .taken))
 
 among-requires-2 : tie.Need-among-requires-2
 unfolding words firstWord otherWords codes oneOf same
-among-requires-2 c κs = let start = c .before .before .before .before .before .before .before in (start .pre .0, start .pre .1, omega arith, refl)
+among-requires-2 c κs =
+    let start = c .before .before .before .before .before .before .before in
+    (start .pre .0, start .pre .1, omega arith, refl)
 
 returns-3 : tie.Need-returns-3
 unfolding hiddenByAttribute words codes
 returns-3 c =
-    let start = c .before .before .before .before .before .before .before .before .before in
+    let t3 = c in
+    let t2 = t3 .before .before .before in
+    let t1 = t2 .before .before .before in
+    let start = t1 .before .before .before in
     let s = now (start .args .s) in
     let l = start .args .l in
     let starts = now (start .args .starts) in
     let lengths = now (start .args .lengths) in
     λ attributes g.
-    or-no _ (there-is s l starts lengths number.hidden (g .hidden) (c .before .before .before .before .before .before .before .is-there .ensures) ∙ c .before .before .before .before .before .before .if1 .left)
-    (or-no _ (sym (among-held s l starts lengths number.rel (g .rel) (words "author icon search prev next tag") (c .before .before .before .before .among .ensures)) ∙ c .before .before .before .if2 .left)
-    (or-yes _ (sym (among-held s l starts lengths number.itemprop (g .itemprop) (words "datePublished author url") (c .before .among2 .ensures)) ∙ c .if3 .taken)))
+    or-no _ (there-is s l starts lengths number.hidden (g .hidden) (t1 .before .is-there .ensures) ∙ t1 .if1 .left)
+    (or-no _
+    (sym (among-held s l starts lengths number.rel (g .rel) (words "author icon search prev next tag") (t2 .before .among .ensures)) ∙ t2 .if2 .left)
+    (or-yes _ (sym (among-held s l starts lengths number.itemprop (g .itemprop) (words "datePublished author url") (t3 .before .among2 .ensures)) ∙ t3 .if3 .taken)))
 
 among-requires-3 : tie.Need-among-requires-3
 unfolding words firstWord otherWords codes oneOf same
-among-requires-3 c κs = let start = c .before .before .before .before .before .before .before .before .before .before in (start .pre .0, start .pre .1, omega arith, refl)
+among-requires-3 c κs =
+    let start = c .before .before .before .before .before .before .before .before .before .before in
+    (start .pre .0, start .pre .1, omega arith, refl)
 
 returns-4 : tie.Need-returns-4
 unfolding hiddenByAttribute words codes
 returns-4 c =
-    let start = c .before .before .before .before .before .before .before .before .before .before .before .before in
+    let t4 = c in
+    let t3 = t4 .before .before .before in
+    let t2 = t3 .before .before .before in
+    let t1 = t2 .before .before .before in
+    let start = t1 .before .before .before in
     let s = now (start .args .s) in
     let l = start .args .l in
     let starts = now (start .args .starts) in
     let lengths = now (start .args .lengths) in
     λ attributes g.
-    or-no _ (there-is s l starts lengths number.hidden (g .hidden) (c .before .before .before .before .before .before .before .before .before .before .is-there .ensures) ∙ c .before .before .before .before .before .before .before .before .before .if1 .left)
-    (or-no _ (sym (among-held s l starts lengths number.rel (g .rel) (words "author icon search prev next tag") (c .before .before .before .before .before .before .before .among .ensures)) ∙ c .before .before .before .before .before .before .if2 .left)
-    (or-no _ (sym (among-held s l starts lengths number.itemprop (g .itemprop) (words "datePublished author url") (c .before .before .before .before .among2 .ensures)) ∙ c .before .before .before .if3 .left)
-    (or-yes _ (sym (among-held s l starts lengths number.aria-hidden (g .aria-hidden) (words "true") (c .before .among3 .ensures)) ∙ c .if4 .taken))))
+    or-no _ (there-is s l starts lengths number.hidden (g .hidden) (t1 .before .is-there .ensures) ∙ t1 .if1 .left)
+    (or-no _
+    (sym (among-held s l starts lengths number.rel (g .rel) (words "author icon search prev next tag") (t2 .before .among .ensures)) ∙ t2 .if2 .left)
+    (or-no _
+    (sym (among-held s l starts lengths number.itemprop (g .itemprop) (words "datePublished author url") (t3 .before .among2 .ensures)) ∙ t3 .if3 .left)
+    (or-yes _ (sym (among-held s l starts lengths number.aria-hidden (g .aria-hidden) (words "true") (t4 .before .among3 .ensures)) ∙ t4 .if4 .taken))))
 
 among-requires-4 : tie.Need-among-requires-4
 unfolding words firstWord otherWords codes oneOf same
-among-requires-4 c κs = let start = c .before .before .before .before .before .before .before .before .before .before .before .before .before in (start .pre .0, start .pre .1, omega arith, refl)
+among-requires-4 c κs =
+    let start = c .before .before .before .before .before .before .before .before .before .before .before .before .before in
+    (start .pre .0, start .pre .1, omega arith, refl)
 
 returns-5 : tie.Need-returns-5
 unfolding hiddenByAttribute words codes
 returns-5 c =
-    let start = c .before .before .before .before .before .before .before .before .before .before .before .before .before .before in
+    let t4 = c .before .before in
+    let t3 = t4 .before .before .before in
+    let t2 = t3 .before .before .before in
+    let t1 = t2 .before .before .before in
+    let start = t1 .before .before .before in
     let s = now (start .args .s) in
     let l = start .args .l in
     let starts = now (start .args .starts) in
     let lengths = now (start .args .lengths) in
     λ attributes g.
-    or-no _ (there-is s l starts lengths number.hidden (g .hidden) (c .before .before .before .before .before .before .before .before .before .before .before .before .is-there .ensures) ∙ c .before .before .before .before .before .before .before .before .before .before .before .if1 .left)
-    (or-no _ (sym (among-held s l starts lengths number.rel (g .rel) (words "author icon search prev next tag") (c .before .before .before .before .before .before .before .before .before .among .ensures)) ∙ c .before .before .before .before .before .before .before .before .if2 .left)
-    (or-no _ (sym (among-held s l starts lengths number.itemprop (g .itemprop) (words "datePublished author url") (c .before .before .before .before .before .before .among2 .ensures)) ∙ c .before .before .before .before .before .if3 .left)
-    (or-no _ (sym (among-held s l starts lengths number.aria-hidden (g .aria-hidden) (words "true") (c .before .before .before .among3 .ensures)) ∙ c .before .before .if4 .left)
+    or-no _ (there-is s l starts lengths number.hidden (g .hidden) (t1 .before .is-there .ensures) ∙ t1 .if1 .left)
+    (or-no _
+    (sym (among-held s l starts lengths number.rel (g .rel) (words "author icon search prev next tag") (t2 .before .among .ensures)) ∙ t2 .if2 .left)
+    (or-no _
+    (sym (among-held s l starts lengths number.itemprop (g .itemprop) (words "datePublished author url") (t3 .before .among2 .ensures)) ∙ t3 .if3 .left)
+    (or-no _
+    (sym (among-held s l starts lengths number.aria-hidden (g .aria-hidden) (words "true") (t4 .before .among3 .ensures)) ∙ t4 .if4 .left)
     (among-held s l starts lengths number.aria-expanded (g .aria-expanded) (words "false") (c .among4 .ensures)))))
 
 pub hidden-by-attribute-spec : {M : Type 1} → statement M

@@ -17,7 +17,8 @@ part-requires c κs =
 returns : tie.Need-returns-2
 returns c =
     let start = c .before .before .before .before .before in
-    c .part2 .ensures ∙ ap (λ (a : AttributeAt). orEmpty (valueIn (now (start .args .s)) (start .args .l) a)) (sym (c .before .before .a .given .1))
+    let read : AttributeAt → Bytes = λ a. orEmpty (valueIn (now (start .args .s)) (start .args .l) a) in
+    c .part2 .ensures ∙ ap read (sym (c .before .before .a .given .1))
 
 pub or-empty-spec : {M : Type 1} → statement M
 or-empty-spec =
