@@ -2,7 +2,6 @@
 use mathlib.Core.Path.{_≡_, refl, sym, ap, ap₂, _∙_}
 use mathlib.Core.Bool.{Bool, true, false, _||_, not, cond}
 use mathlib.Core.List.{List, [], _∷_}
-use mathlib.Core.Option.{none, some}
 use Prim.Native.Nat.{ℕ, zero, suc, _+_, _-_, _≤_, _<_}
 use native.Mathlib.Numerals.{add-one}
 use native.Mathlib.Omega.{arith}
@@ -25,7 +24,7 @@ use Rattle.tree.specs.Node.{attribute}
 use Rattle.tree.proofs.AttributeLines.{find-is}
 use Rattle.tree.specs.declared.attributes.AttributeAt.{AttributeAt}
 use Rattle.tree.specs.declared.attributes.AttributeAt.the-variants.{Absent, At}
-use Rattle.filters.specs.Gathered.{attributeNames, nameCount, slotCount, attributeNumber, slot, slotValue, SlotInside, Slots, Gathered, Readable}
+use Rattle.filters.specs.Gathered.{attributeNames, nameCount, slotCount, attributeNumber, slot, SlotInside, Slots, Gathered, Readable}
 
 -- ---- the number of a name
 

@@ -41,7 +41,7 @@ module _ (o : ExtractOptions) (cluster : Rule → Bool) (depth : ℕ) (name : By
       (byClassAndId o cluster depth name attributes class id)))
       → r ≡ byAttributes o cluster depth name attributes
   unfolding byAttributes
-  by-values e = e ∙ rw (value-held s l starts lengths 6 (g .class) class-is, value-held s l starts lengths 7 (g .id) id-is, value-held s l starts lengths 8 (g .style) style-is)
+  by-values e = e ∙ rw (value-held (g .class) class-is, value-held (g .id) id-is, value-held (g .style) style-is)
 
 module _ (s : Bytes) (l : Layout) (i : ℕ) {r : Row} (r-is : r ≡ rowAt s l i) where
   pub tag-named : r .kind ≡ 1 → {t : ℕ} {name : Bytes} → t ≡ tagOf (tag (nodeAt s l i)) → name ≡ range s l (r .«name_at») (r .«name_len») → t ≡ tagOf name

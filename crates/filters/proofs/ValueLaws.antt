@@ -1,11 +1,11 @@
 -- What a slot says of the attribute that it holds.
 use mathlib.Core.Path.{_≡_, refl, sym, ap, _∙_}
-use mathlib.Core.Bool.{Bool, true, false, not}
+use mathlib.Core.Bool.{Bool, false, not}
 use mathlib.Core.List.{List, []}
-use mathlib.Core.Option.{Option, none, some, Option·getD}
+use mathlib.Core.Option.{Option}
 use Prim.Native.Nat.{ℕ, zero, suc, _≤_}
 use native.Mathlib.Omega.{arith}
-use lib.Dec.{eqb, eqb·suc-zero}
+use lib.Dec.{eqb·suc-zero}
 use lib.ListN.{getD, length, length-take}
 use Rattle.common.specs.Bytes.{Bytes}
 use Rattle.sheet.specs.Accepted.{Accepted}
@@ -14,7 +14,7 @@ use Rattle.sheet.specs.declared.line.Layout.{Layout}
 use Rattle.tags.specs.Words.{oneOf}
 use Rattle.text.specs.Text.{trim, trimBy, trimStartBy, rstripBy}
 use Rattle.tree.specs.Attributes.{valueIn}
-use Rattle.tree.specs.Node.{isThere}
+use Rattle.tree.specs.Node.{isThere, orEmpty}
 use Rattle.filters.specs.Gathered.{slot, slotIsThere, slotValue, SlotInside}
 
 module _ (s : Bytes) (l : Layout) where
@@ -32,12 +32,14 @@ there s l zero len = refl
 there s l (suc at) len = ap not (eqb·suc-zero at)
 
 -- slot k holds an attribute
-module _ (s : Bytes) (l : Layout) (starts lengths : List ℕ) (k : ℕ) {v : Option Bytes} (e : valueIn s l (slot (getD starts k 0) (getD lengths k 0)) ≡ v) where
-  pub there-is : {b : Bool} → b ≡ slotIsThere (getD starts k 0) → isThere v ≡ b
-  there-is b-is = sym (b-is ∙ there s l (getD starts k 0) (getD lengths k 0) ∙ ap isThere e)
+pub there-is : (s : Bytes) (l : Layout) (starts lengths : List ℕ) (k : ℕ) {v : Option Bytes}
+    → valueIn s l (slot (getD starts k 0) (getD lengths k 0)) ≡ v → {b : Bool} → b ≡ slotIsThere (getD starts k 0) → isThere v ≡ b
+there-is s l starts lengths k e b-is = sym (b-is ∙ there s l (getD starts k 0) (getD lengths k 0) ∙ ap isThere e)
 
-  pub among-held : (ws : List Bytes) {r : Bool} → r ≡ oneOf (trim (slotValue s l (getD starts k 0) (getD lengths k 0))) ws → r ≡ oneOf (trim (Option·getD v [])) ws
-  among-held ws p = p ∙ ap (λ (x : Option Bytes). oneOf (trim (Option·getD x [])) ws) e
+-- x, which a slot holds, is an attribute
+module _ {x v : Option Bytes} (e : x ≡ v) where
+  pub among-held : (ws : List Bytes) {r : Bool} → r ≡ oneOf (trim (orEmpty x)) ws → r ≡ oneOf (trim (orEmpty v)) ws
+  among-held ws p = p ∙ ap (λ (y : Option Bytes). oneOf (trim (orEmpty y)) ws) e
 
-  pub value-held : {text : Bytes} → text ≡ slotValue s l (getD starts k 0) (getD lengths k 0) → text ≡ Option·getD v []
-  value-held p = p ∙ ap (λ (x : Option Bytes). Option·getD x []) e
+  pub value-held : {text : Bytes} → text ≡ orEmpty x → text ≡ orEmpty v
+  value-held p = p ∙ ap orEmpty e

@@ -1,6 +1,6 @@
 -- The rows of an accepted sheet hold UTF-8, and so does every entry that `collect` makes of them.
 use mathlib.Core.Path.{refl}
-use mathlib.Core.Bool.{Bool, true, false, _&&_, _||_, not, cond}
+use mathlib.Core.Bool.{Bool, true, false, _&&_, _||_, not}
 use mathlib.Core.List.{List, [], _∷_}
 use mathlib.Core.Option.{Option, some, Option·getD}
 use mathlib.Core.Option as option

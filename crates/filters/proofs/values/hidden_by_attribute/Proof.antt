@@ -17,12 +17,11 @@ unfolding hiddenByAttribute
 returns c =
     let t1 = c in
     let start = t1 .before .before .before in
-    let s = now (start .args .s) in
-    let l = start .args .l in
-    let starts = now (start .args .starts) in
-    let lengths = now (start .args .lengths) in
+    let a = start .args in
     λ attributes g.
-    or-yes _ (there-is s l starts lengths number.hidden (g .hidden) (t1 .before .is-there .ensures) ∙ t1 .if1 .taken)
+    or-yes _
+    (there-is (now (a .s)) (a .l) (now (a .starts)) (now (a .lengths)) number.hidden (g .hidden) (t1 .before .is-there .ensures)
+    ∙ t1 .if1 .taken)
 
 among-requires : tie.Need-among-requires
 unfolding words firstWord otherWords codes oneOf same
@@ -36,13 +35,12 @@ returns-2 c =
     let t2 = c in
     let t1 = t2 .before .before .before in
     let start = t1 .before .before .before in
-    let s = now (start .args .s) in
-    let l = start .args .l in
-    let starts = now (start .args .starts) in
-    let lengths = now (start .args .lengths) in
+    let a = start .args in
     λ attributes g.
-    or-no _ (there-is s l starts lengths number.hidden (g .hidden) (t1 .before .is-there .ensures) ∙ t1 .if1 .left)
-    (or-yes _ (sym (among-held s l starts lengths number.rel (g .rel) (words "author icon search prev next tag") (t2 .before .among .ensures)) ∙ t2 .if2 .taken))
+    or-no _
+    (there-is (now (a .s)) (a .l) (now (a .starts)) (now (a .lengths)) number.hidden (g .hidden) (t1 .before .is-there .ensures)
+    ∙ t1 .if1 .left)
+    (or-yes _ (sym (among-held (g .rel) (words "author icon search prev next tag") (t2 .before .among .ensures)) ∙ t2 .if2 .taken))
 
 among-requires-2 : tie.Need-among-requires-2
 unfolding words firstWord otherWords codes oneOf same
@@ -57,15 +55,13 @@ returns-3 c =
     let t2 = t3 .before .before .before in
     let t1 = t2 .before .before .before in
     let start = t1 .before .before .before in
-    let s = now (start .args .s) in
-    let l = start .args .l in
-    let starts = now (start .args .starts) in
-    let lengths = now (start .args .lengths) in
+    let a = start .args in
     λ attributes g.
-    or-no _ (there-is s l starts lengths number.hidden (g .hidden) (t1 .before .is-there .ensures) ∙ t1 .if1 .left)
-    (or-no _
-    (sym (among-held s l starts lengths number.rel (g .rel) (words "author icon search prev next tag") (t2 .before .among .ensures)) ∙ t2 .if2 .left)
-    (or-yes _ (sym (among-held s l starts lengths number.itemprop (g .itemprop) (words "datePublished author url") (t3 .before .among2 .ensures)) ∙ t3 .if3 .taken)))
+    or-no _
+    (there-is (now (a .s)) (a .l) (now (a .starts)) (now (a .lengths)) number.hidden (g .hidden) (t1 .before .is-there .ensures)
+    ∙ t1 .if1 .left)
+    (or-no _ (sym (among-held (g .rel) (words "author icon search prev next tag") (t2 .before .among .ensures)) ∙ t2 .if2 .left)
+    (or-yes _ (sym (among-held (g .itemprop) (words "datePublished author url") (t3 .before .among2 .ensures)) ∙ t3 .if3 .taken)))
 
 among-requires-3 : tie.Need-among-requires-3
 unfolding words firstWord otherWords codes oneOf same
@@ -81,17 +77,14 @@ returns-4 c =
     let t2 = t3 .before .before .before in
     let t1 = t2 .before .before .before in
     let start = t1 .before .before .before in
-    let s = now (start .args .s) in
-    let l = start .args .l in
-    let starts = now (start .args .starts) in
-    let lengths = now (start .args .lengths) in
+    let a = start .args in
     λ attributes g.
-    or-no _ (there-is s l starts lengths number.hidden (g .hidden) (t1 .before .is-there .ensures) ∙ t1 .if1 .left)
-    (or-no _
-    (sym (among-held s l starts lengths number.rel (g .rel) (words "author icon search prev next tag") (t2 .before .among .ensures)) ∙ t2 .if2 .left)
-    (or-no _
-    (sym (among-held s l starts lengths number.itemprop (g .itemprop) (words "datePublished author url") (t3 .before .among2 .ensures)) ∙ t3 .if3 .left)
-    (or-yes _ (sym (among-held s l starts lengths number.aria-hidden (g .aria-hidden) (words "true") (t4 .before .among3 .ensures)) ∙ t4 .if4 .taken))))
+    or-no _
+    (there-is (now (a .s)) (a .l) (now (a .starts)) (now (a .lengths)) number.hidden (g .hidden) (t1 .before .is-there .ensures)
+    ∙ t1 .if1 .left)
+    (or-no _ (sym (among-held (g .rel) (words "author icon search prev next tag") (t2 .before .among .ensures)) ∙ t2 .if2 .left)
+    (or-no _ (sym (among-held (g .itemprop) (words "datePublished author url") (t3 .before .among2 .ensures)) ∙ t3 .if3 .left)
+    (or-yes _ (sym (among-held (g .aria-hidden) (words "true") (t4 .before .among3 .ensures)) ∙ t4 .if4 .taken))))
 
 among-requires-4 : tie.Need-among-requires-4
 unfolding words firstWord otherWords codes oneOf same
@@ -107,19 +100,15 @@ returns-5 c =
     let t2 = t3 .before .before .before in
     let t1 = t2 .before .before .before in
     let start = t1 .before .before .before in
-    let s = now (start .args .s) in
-    let l = start .args .l in
-    let starts = now (start .args .starts) in
-    let lengths = now (start .args .lengths) in
+    let a = start .args in
     λ attributes g.
-    or-no _ (there-is s l starts lengths number.hidden (g .hidden) (t1 .before .is-there .ensures) ∙ t1 .if1 .left)
-    (or-no _
-    (sym (among-held s l starts lengths number.rel (g .rel) (words "author icon search prev next tag") (t2 .before .among .ensures)) ∙ t2 .if2 .left)
-    (or-no _
-    (sym (among-held s l starts lengths number.itemprop (g .itemprop) (words "datePublished author url") (t3 .before .among2 .ensures)) ∙ t3 .if3 .left)
-    (or-no _
-    (sym (among-held s l starts lengths number.aria-hidden (g .aria-hidden) (words "true") (t4 .before .among3 .ensures)) ∙ t4 .if4 .left)
-    (among-held s l starts lengths number.aria-expanded (g .aria-expanded) (words "false") (c .among4 .ensures)))))
+    or-no _
+    (there-is (now (a .s)) (a .l) (now (a .starts)) (now (a .lengths)) number.hidden (g .hidden) (t1 .before .is-there .ensures)
+    ∙ t1 .if1 .left)
+    (or-no _ (sym (among-held (g .rel) (words "author icon search prev next tag") (t2 .before .among .ensures)) ∙ t2 .if2 .left)
+    (or-no _ (sym (among-held (g .itemprop) (words "datePublished author url") (t3 .before .among2 .ensures)) ∙ t3 .if3 .left)
+    (or-no _ (sym (among-held (g .aria-hidden) (words "true") (t4 .before .among3 .ensures)) ∙ t4 .if4 .left)
+    (among-held (g .aria-expanded) (words "false") (c .among4 .ensures)))))
 
 pub hidden-by-attribute-spec : {M : Type 1} → statement M
 hidden-by-attribute-spec =

@@ -1,7 +1,6 @@
 -- `values::rel_main` meets its contract.
 use mathlib.Core.Path.{refl}
 use native.Mathlib.Omega.{arith}
-use denote.Ref.{now}
 use Rattle.common.specs.Bytes.{codes, same}
 use Rattle.tags.specs.Words.{words, firstWord, otherWords, oneOf}
 use Rattle.filters.specs.Filters.{relMain}
@@ -19,7 +18,7 @@ among-requires c κs = (c .before .before .pre .0, c .before .before .pre .1, om
 
 returns : tie.Need-returns
 unfolding relMain words codes
-returns c = λ attributes g. among-held (now (c .before .before .before .args .s)) (c .before .before .before .args .l) (now (c .before .before .before .args .starts)) (now (c .before .before .before .args .lengths)) 2 (g .rel) (words "main") (c .among .ensures)
+returns c = λ attributes g. among-held (g .rel) (words "main") (c .among .ensures)
 
 pub rel-main-spec : {M : Type 1} → statement M
 rel-main-spec = tie.close (tie.spec slice-aggregate-among among-requires returns)

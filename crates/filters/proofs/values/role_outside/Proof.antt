@@ -1,7 +1,6 @@
 -- `values::role_outside` meets its contract.
 use mathlib.Core.Path.{refl}
 use native.Mathlib.Omega.{arith}
-use denote.Ref.{now}
 use Rattle.common.specs.Bytes.{codes, same}
 use Rattle.tags.specs.Words.{words, firstWord, otherWords, oneOf}
 use Rattle.filters.specs.Filters.{roleOutside}
@@ -19,7 +18,7 @@ among-requires c κs = (c .before .before .pre .0, c .before .before .pre .1, om
 
 returns : tie.Need-returns
 unfolding roleOutside words codes
-returns c = λ attributes g. among-held (now (c .before .before .before .args .s)) (c .before .before .before .args .l) (now (c .before .before .before .args .starts)) (now (c .before .before .before .args .lengths)) 9 (g .role) (words "alert banner checkbox comment complementary contentinfo dialog img menu menubar menuitem navigation presentation radio search searchbox separator tab toolbar tooltip") (c .among .ensures)
+returns c = λ attributes g. among-held (g .role) (words "alert banner checkbox comment complementary contentinfo dialog img menu menubar menuitem navigation presentation radio search searchbox separator tab toolbar tooltip") (c .among .ensures)
 
 pub role-outside-spec : {M : Type 1} → statement M
 role-outside-spec = tie.close (tie.spec slice-aggregate-among among-requires returns)
