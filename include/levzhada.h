@@ -19,9 +19,9 @@
 extern "C" {
 #endif
 
-#define LEVZHADA_VERSION "0.4.0"
+#define LEVZHADA_VERSION "0.5.0"
 #define LEVZHADA_VERSION_MAJOR 0
-#define LEVZHADA_VERSION_MINOR 4
+#define LEVZHADA_VERSION_MINOR 5
 #define LEVZHADA_VERSION_PATCH 0
 
 /* The numbers, and what the second number is with each. The header is line 0, row 0 line 1. */
@@ -47,6 +47,10 @@ extern "C" {
 #define LEVZHADA_INPUT_TOO_LONG 34 /* of the program `desk` alone, no function gives it */
 #define LEVZHADA_NO_ROW 35         /* the row that is not there or, for the link measure, is no element */
 #define LEVZHADA_NO_PATTERN 36     /* the pattern that is not there */
+
+/* An escaped text that is read back is wrong, or out is too short for it. */
+#define LEVZHADA_NO_ENTITY 51              /* the offset of the ampersand that starts none of the four names */
+#define LEVZHADA_UNESCAPE_OUT_TOO_SHORT 52 /* the length that out needs */
 
 /* The stack that a call takes, in bytes below its caller's frame: at most this. Measured and rounded up, not proved: tests/c/stack.c found
  * 379,000 for levzhada_extract from 257 rows on and 45,368 up to 256 rows, 21,912 for levzhada_matches, 4,600 for levzhada_measure and
@@ -139,6 +143,14 @@ levzhada_answer levzhada_collapse(const uint8_t *text, size_t text_length, uint8
 
 /* & < > and " as entities: out as for collapse. */
 levzhada_answer levzhada_escape(const uint8_t *text, size_t text_length, uint8_t *out, size_t out_length);
+
+/* The inverse of escape: the names &amp; &quot; &lt; and &gt;, in this spelling and with the semicolon, become & " < and >, and every other
+ * byte is copied, UTF-8 or not. What a name has become is not read again: &amp;lt; gives &lt;. out as for collapse; text_length bytes of it
+ * are always enough.
+ * Refused, in this order: 51 with the offset, in bytes from 0, of the first ampersand that starts none of the four names, looked for in the
+ * whole text (&amp and &AMP; and &#38; and &apos; are no names); 52 with the need, out too short. After a refusal out is unchanged.
+ * A MinimalHtml text that has an unescaped ampersand, as that of an alt in an `a` with links, is 51, unless a name starts there. */
+levzhada_answer levzhada_unescape(const uint8_t *text, size_t text_length, uint8_t *out, size_t out_length);
 
 #ifdef __cplusplus
 }

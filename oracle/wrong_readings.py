@@ -1,14 +1,14 @@
 #!/usr/bin/env python3
-"""Wrong readings of the Rust, each an edit of oracle/reference.py: does the sample tests/vectors/replay.in tell it from the right one?
-Use: wrong_readings.py [NAME]
-Ends with 1 if one of them is not told apart. The last list has edits that no sheet can tell apart."""
+"""Wrong readings of the Rust, each an edit of oracle/reference.py: does the sample tests/vectors/replay.in tell it from the right one? And
+of change request 5, each an edit of oracle/unescape.py: does tests/vectors/unescape.in?
+Use: wrong_readings.py [NAME ..]: all, or those of these names; `replay` and `unescape` are all of a sample.
+Ends with 1 if one of them is not told apart. `SAME` has edits that no sheet can tell apart."""
 import os
 import subprocess
 import sys
 
 HERE = os.path.dirname(os.path.abspath(__file__))
-SAMPLE = os.path.join(HERE, "..", "tests", "vectors", "replay")
-REFERENCE = os.path.join(HERE, "reference.py")
+VECTORS = os.path.join(HERE, "..", "tests", "vectors")
 
 WRONG = [
     # document 01, "False friends"
@@ -145,31 +145,140 @@ SAME = [
     ("margins at a pre's end", "            S.push_all(b\"<pre>\")\n        S.margins = 0\n", "            S.push_all(b\"<pre>\")\n"),
 ]
 
+# change request 5: what is a name
+TABLE, PATTERN = 'NAMES = list(CHARACTERS)\n', 'NAME = re.compile(b"|".join(NAMES))'
+READ, STARTS = 'NAME.sub(lambda name: CHARACTERS[name.group()], text)', 'if not NAME.match(text, ampersand.start()):'
 
-def said(old, new):
-    source = open(REFERENCE).read()
+
+def names(more):
+    return TABLE, "CHARACTERS.update(%s)\n" % more + TABLE
+
+
+def in_turn(*names):
+    return READ, "text" + "".join('.replace(b"&%s;", CHARACTERS[b"&%s;"])' % (n, n) for n in names)
+
+
+def without_semicolon(behind):
+    return PATTERN, 'CHARACTERS.update({n[:-1]: c for n, c in CHARACTERS.items()})\nNAME = re.compile(rb"&(?:amp|quot|lt|gt)(?:;|%s)")' % behind
+
+
+UNESCAPE = [
+    ("what a name has become is read again", READ, READ.replace("text", READ)),
+    ("read again as long as there is a name", READ, "(lambda t: t if t == text else characters(t))(%s)" % READ),
+    ("&amp; before the others", *in_turn("amp", "quot", "lt", "gt")),
+    ("&amp; before &quot;", *in_turn("lt", "gt", "amp", "quot")),
+    ("&amp; before &gt;", *in_turn("quot", "lt", "amp", "gt")),
+    ("&amp; before &lt;", *in_turn("quot", "gt", "amp", "lt")),
+    ("the first name alone", READ, READ.replace("text", "text, 1")),
+    ("&apos;", *names('{b"&apos;": b"\'"}')),
+    ("&#39;", *names('{b"&#39;": b"\'"}')),
+    ("&nbsp;", *names('{b"&nbsp;": b"\\xc2\\xa0"}')),
+    ("numbers", *names('{b"&#%d;" % n: bytes([n]) for n in range(128)}')),
+    ("hexadecimal numbers", *names('{b"&#x%x;" % n: bytes([n]) for n in range(128)}')),
+    ("any case", *names('{bytes(n): c for name, c in CHARACTERS.items() for n in itertools.product(*zip(name, name.upper()))}')),
+    ("capitals", *names('{n.upper(): c for n, c in CHARACTERS.items()}')),
+    ("a first capital", *names('{n.title(): c for n, c in CHARACTERS.items()}')),
+    ("a blank before the semicolon", *names('{n[:-1] + b" ;": c for n, c in CHARACTERS.items()}')),
+    ("a blank behind the ampersand", *names('{b"& " + n[1:]: c for n, c in CHARACTERS.items()}')),
+    ("a colon for the semicolon", *names('{n[:-1] + b":": c for n, c in CHARACTERS.items()}')),
+    ("the semicolon stays", READ, 'NAME.sub(lambda name: CHARACTERS[name.group()] + b";", text)'),
+    ("no semicolon", *without_semicolon("")),
+    ("no semicolon at the end", *without_semicolon("\\Z")),
+    ("no semicolon before a blank", *without_semicolon("(?= )")),
+    ("no semicolon before an ampersand", *without_semicolon("(?=&)")),
+    ("&lt; and &gt; change places", *names('{b"&lt;": b">", b"&gt;": b"<"}')),
+    ("&quot; is an apostrophe", *names('{b"&quot;": b"\'"}')),
+    ("an ampersand alone is copied", STARTS, "if False:"),
+    ("an ampersand at the end is copied", STARTS, "if ampersand.end() < len(text) and" + STARTS[2:]),
+    ("an ampersand before a blank is copied", STARTS, 'if text[ampersand.end():][:1] != b" " and' + STARTS[2:]),
+    ("an ampersand before an ampersand is copied", STARTS, 'if text[ampersand.end():][:1] != b"&" and' + STARTS[2:]),
+    ("an ampersand with no semicolon behind it is copied", STARTS, 'if b";" in text[ampersand.end():] and' + STARTS[2:]),
+    ("the ampersand of a semicolon is copied", STARTS, 'if text[ampersand.end():][:1] != b";" and' + STARTS[2:]),
+]
+for name in "&amp;", "&quot;", "&lt;", "&gt;":
+    UNESCAPE.append(("no %s" % name, TABLE, 'del CHARACTERS[b"%s"]\n' % name + TABLE))
+
+# which ampersand is told, how long out must be, and how it stands
+FIRST, TOLD = "    at = no_entity(text)\n", "return [51, at, 0, 0], out"
+FITS, SHORT = "if len(out) < len(shown):", "return [52, len(shown), 0, 0], out"
+NUMBERS, BEHIND = "return [0, 0, 0, len(shown)]", "shown + bytes(len(out) - len(shown))"
+UNESCAPE += [
+    ("an ampersand that starts no name is left out", FIRST, '    text = re.sub(rb"&(?!(?:amp|quot|lt|gt);)", b"", text)\n' + FIRST),
+    ("the last such ampersand", 'for ampersand in re.finditer(rb"&", text):', 'for ampersand in reversed(list(re.finditer(rb"&", text))):'),
+    ("the offset in the characters", TOLD, TOLD.replace("at,", "len(characters(text[:at])),")),
+    ("the offset from 1", TOLD, TOLD.replace("at,", "at + 1,")),
+    ("the offset from the end", TOLD, TOLD.replace("at,", "len(text) - at,")),
+    ("the offset in characters of UTF-8", TOLD, TOLD.replace("at,", 'len(text[:at].decode("utf-8", "replace")),')),
+    ("the offset of the first ampersand", TOLD, TOLD.replace("at,", 'text.find(b"&"),')),
+    ("the number of the ampersand", TOLD, TOLD.replace("at,", 'text.count(b"&", 0, at),')),
+    ("52 before 51", FIRST, "    if len(out) < len(characters(text)):\n        return [52, len(characters(text)), 0, 0], out\n" + FIRST),
+    ("51 as far as out goes", "if at is not None:\n        " + TOLD, "if at is not None and len(characters(text[:at])) <= len(out):\n        " + TOLD),
+    ("the need is one more", SHORT, SHORT.replace("len(shown)", "len(shown) + 1")),
+    ("the need is one less", SHORT, SHORT.replace("len(shown)", "len(shown) - 1")),
+    ("the need is the text's length", SHORT, SHORT.replace("len(shown)", "len(text)")),
+    ("the need is what is missing", SHORT, SHORT.replace("len(shown)", "len(shown) - len(out)")),
+    ("the need is out's length", SHORT, SHORT.replace("len(shown)", "len(out)")),
+    ("out must have a byte more", FITS, FITS.replace("<", "<=")),
+    ("out must be as long as the text", FITS, FITS.replace("shown", "text")),
+    ("out as far as it goes", FITS, "shown = shown[:len(out)]\n    if False:"),
+    ("51 clears out", TOLD, TOLD.replace(" out", " bytes(len(out))")),
+    ("51 leaves what stands before it", TOLD, TOLD.replace(" out", " (characters(text[:at]) + out)[:len(out)]")),
+    ("52 clears out", SHORT, SHORT.replace(" out", " bytes(len(out))")),
+    ("52 leaves what fits", SHORT, SHORT.replace(" out", " shown[:len(out)]")),
+    ("no zeros", BEHIND, "shown + out[len(shown):]"),
+    ("one zero", BEHIND, '(shown + b"\\0" + out[len(shown) + 1:])[:len(out)]'),
+    ("zeros to the text's length", BEHIND, "(shown + bytes(len(text) - len(shown)) + out[len(text):])[:len(out)]"),
+    ("spaces for zeros", BEHIND, 'shown.ljust(len(out))'),
+    ("zeros before the bytes", BEHIND, "bytes(len(out) - len(shown)) + shown"),
+    ("32 for 52", SHORT, SHORT.replace("52", "32")),
+    ("a refusal has a length", SHORT, SHORT.replace("0, 0]", "0, len(shown)]")),
+    ("a visit", NUMBERS, NUMBERS.replace("0, 0, 0", "0, 0, 1")),
+    ("the length as the second number", NUMBERS, "return [0, len(shown), 0, 0]"),
+    ("the length is out's", NUMBERS, NUMBERS.replace("shown", "out")),
+    ("the length is the text's", NUMBERS, NUMBERS.replace("shown", "text")),
+    ("UTF-8 alone", FIRST, '    if text.decode("utf-8", "ignore").encode() != text:\n        return [17, 0, 0, 0], out\n' + FIRST),
+    ("NUL ends a text", FIRST, '    text = text.split(b"\\0")[0]\n' + FIRST),
+    ("bit 7 is not looked at", 're.finditer(rb"&", text)', 're.finditer(rb"[&\\xa6]", text)'),
+    ("blanks collapse", READ, 're.sub(rb"[ \\t\\n\\x0b\\x0c\\r]+", b" ", %s)' % READ),
+    ("blanks at the ends go", READ, READ + ".strip()"),
+]
+for bare in "<", ">", '\\"':
+    UNESCAPE.append(("a bare %s is refused" % bare[-1], FIRST, FIRST + '    at = text.find(b"%s") if at is None and b"%s" in text else at\n' % (bare, bare)))
+
+SAMPLES = [("replay", "reference.py", "--program", WRONG, SAME), ("unescape", "unescape.py", "answers", UNESCAPE, [])]
+
+
+def said(file, mode, cases, old, new):
+    reference = os.path.join(HERE, file)
+    source = open(reference).read()
     if source.count(old) != 1:
         sys.exit("found %d times: %r" % (source.count(old), old))
-    code = "import sys\nexec(compile(sys.argv.pop(1), %r, 'exec'), {'__name__': '__main__', '__file__': %r})" % (REFERENCE, REFERENCE)
-    command = [sys.executable, "-c", code, source.replace(old, new), "--program"]
-    with open(SAMPLE + ".in", "rb") as cases:
-        return subprocess.run(command, stdin=cases, stdout=subprocess.PIPE, stderr=subprocess.DEVNULL)
+    code = "import sys\nexec(compile(sys.argv.pop(1), %r, 'exec'), {'__name__': '__main__', '__file__': %r})" % (reference, reference)
+    command = [sys.executable, "-c", code, source.replace(old, new), mode]
+    with open(cases, "rb") as f:
+        return subprocess.run(command, stdin=f, stdout=subprocess.PIPE, stderr=subprocess.DEVNULL)
 
 
 def main():
-    right = open(SAMPLE + ".out", "rb").read()
-    missed = 0
-    for told, edits in ((True, WRONG), (False, SAME)):
-        for name, old, new in edits:
-            if sys.argv[1:] and name not in sys.argv[1:]:
-                continue
-            run = said(old, new)
-            if (run.returncode != 0 or run.stdout != right) != told:
-                print("%s: %s" % (name, "not told apart" if told else "told apart"))
-                sys.stdout.flush()
-                missed += 1
-    print("%d wrong readings, %d not as said" % (len(WRONG), missed))
-    sys.exit(missed > 0)
+    asked, all_missed = sys.argv[1:], 0
+    for sample, file, mode, wrong, same in SAMPLES:
+        vectors = os.path.join(VECTORS, sample)
+        right = open(vectors + ".out", "rb").read()
+        tried = missed = 0
+        for told, edits in ((True, wrong), (False, same)):
+            for name, old, new in edits:
+                if asked and sample not in asked and name not in asked:
+                    continue
+                run = said(file, mode, vectors + ".in", old, new)
+                tried += told
+                if (run.returncode != 0 or run.stdout != right) != told:
+                    print("%s: %s" % (name, "not told apart" if told else "told apart"))
+                    sys.stdout.flush()
+                    missed += 1
+        if tried or missed:
+            print("%s: %d wrong readings, %d not as said" % (sample, tried, missed), flush=True)
+        all_missed += missed
+    sys.exit(all_missed > 0)
 
 
 if __name__ == "__main__":

@@ -143,6 +143,12 @@ static void texts(void) {
     check_answer("escape", levzhada_escape(bytes("a<\"&"), 4, out, 16), LEVZHADA_ACCEPTED, 0, 0, 16);
     check_bytes("escape", out, "a&lt;&quot;&amp;", 16);
     check_answer("escape, out too short", levzhada_escape(bytes("a<\"&"), 4, out, 15), LEVZHADA_OUT_TOO_SHORT, 16, 0, 0);
+    memset(out, '#', sizeof out);
+    check_answer("unescape, no entity", levzhada_unescape(bytes("&lt;&x;"), 7, out, 0), LEVZHADA_NO_ENTITY, 4, 0, 0);
+    check_answer("unescape, out too short", levzhada_unescape(bytes("a&amp;b"), 7, out, 2), LEVZHADA_UNESCAPE_OUT_TOO_SHORT, 3, 0, 0);
+    check_bytes("unescape, refused", out, "################", 16);
+    check_answer("unescape", levzhada_unescape(bytes("a&lt;&quot;&amp;"), 16, out, 8), LEVZHADA_ACCEPTED, 0, 0, 4);
+    check_bytes("unescape", out, "a<\"&\0\0\0\0########", 16);
 }
 
 int main(void) {

@@ -141,7 +141,7 @@ static void make(size_t rows, size_t down) {
 
 static uint8_t *out, *work;
 static char options[LINE];
-static size_t asked, refused, accepted;
+static size_t asked, refused, accepted, escaped;
 
 static void extract(void) {
     levzhada_answer a = levzhada_extract(bytes(sheet), sheet_length, bytes(options), LINE, out, ROOM, work, ROOM);
@@ -159,6 +159,11 @@ static void link_measure(void) { levzhada_measure(bytes(sheet), sheet_length, as
 static void matches(void) { levzhada_matches(asked % 21, bytes(sheet), sheet_length < 10000 ? sheet_length : 10000); }
 static void collapse(void) { levzhada_collapse(bytes(sheet), sheet_length, out, ROOM); }
 static void escape(void) { levzhada_escape(bytes(sheet), sheet_length, out, ROOM); }
+/* refused, and accepted: work holds the escaped sheet */
+static void unescape(void) {
+    levzhada_unescape(bytes(sheet), sheet_length, out, ROOM);
+    levzhada_unescape(work, escaped, out, ROOM);
+}
 /* with alt_texts off */
 static void mark(void) { levzhada_mark((uint8_t *)sheet, sheet_length, bytes("10100011000\n"), LINE, 0); }
 
@@ -188,6 +193,7 @@ static const struct {
     {"levzhada_matches", matches},
     {"levzhada_collapse", collapse},
     {"levzhada_escape", escape},
+    {"levzhada_unescape", unescape},
     {"levzhada_mark", mark},
 };
 enum { OTHERS = sizeof others / sizeof *others };
@@ -222,6 +228,8 @@ int main(void) {
         make(ROWS, down);
         check_answer("a sheet of 20,000 rows", levzhada_check(bytes(sheet), sheet_length), LEVZHADA_ACCEPTED, 0, 0, 0);
         extractions(&large);
+        escaped = levzhada_escape(bytes(sheet), sheet_length, work, ROOM).length;
+        check_answer("a sheet, escaped", levzhada_unescape(work, escaped, out, ROOM), LEVZHADA_ACCEPTED, 0, 0, sheet_length);
         for (size_t j = 0; j < OTHERS; j++)
             for (int i = 0; i < 5; i++) {
                 asked = i ? below(ROWS) : 0;

@@ -109,6 +109,12 @@ mod raw {
             out: *mut u8,
             out_length: usize,
         ) -> Answer;
+        pub fn levzhada_unescape(
+            text: *const u8,
+            text_length: usize,
+            out: *mut u8,
+            out_length: usize,
+        ) -> Answer;
     }
 }
 
@@ -144,6 +150,10 @@ pub enum Refusal {
     Row(usize),
     /// 36: there is no such pattern.
     Pattern(usize),
+    /// 51: the ampersand at this offset of an escaped text, in bytes from 0, starts none of the four names.
+    Entity(usize),
+    /// 52: the characters of an escaped text need this many bytes, and the allocator has not got them.
+    Characters(usize),
     /// An answer that the archive is proved never to give here, in its numbers; of a text that is not UTF-8, 0 and where that begins.
     /// Another archive was linked.
     Other(usize, usize),
@@ -166,6 +176,8 @@ impl Refusal {
             Refusal::Out(need) => (32, need),
             Refusal::Row(row) => (35, row),
             Refusal::Pattern(pattern) => (36, pattern),
+            Refusal::Entity(at) => (51, at),
+            Refusal::Characters(need) => (52, need),
             Refusal::Other(number, second) => (number, second),
         }
     }
@@ -190,6 +202,10 @@ impl fmt::Display for Refusal {
             Refusal::Out(need) => write!(f, "{number}: no memory for {need} bytes of text"),
             Refusal::Row(row) => write!(f, "{number}: row {row} is not there, or no element"),
             Refusal::Pattern(pattern) => write!(f, "{number}: no pattern {pattern}"),
+            Refusal::Entity(at) => write!(f, "{number}: the ampersand at {at} starts no name"),
+            Refusal::Characters(need) => {
+                write!(f, "{number}: no memory for {need} bytes of characters")
+            }
             Refusal::Other(number, second) => write!(
                 f,
                 "{number} {second}: no answer of the archive that this crate is for"
@@ -217,6 +233,8 @@ fn accepted(a: raw::Answer) -> Result<raw::Answer, Refusal> {
         (32, need) => Refusal::Out(need),
         (35, row) => Refusal::Row(row),
         (36, pattern) => Refusal::Pattern(pattern),
+        (51, at) => Refusal::Entity(at),
+        (52, need) => Refusal::Characters(need),
         (number, second) => Refusal::Other(number, second),
     })
 }
@@ -343,7 +361,7 @@ fn written(call: Write, text: &[u8]) -> Result<Vec<u8>, Refusal> {
     grow(&mut out, text.len());
     loop {
         let a = unsafe { call(text.as_ptr(), text.len(), out.as_mut_ptr(), out.len()) };
-        if a.number == 32 && grow(&mut out, a.second) {
+        if matches!(a.number, 32 | 52) && grow(&mut out, a.second) {
             continue;
         }
         out.truncate(accepted(a)?.length);
@@ -359,6 +377,22 @@ pub fn collapse(text: &[u8]) -> Result<Vec<u8>, Refusal> {
 /// & < > and " as entities (32 alone).
 pub fn escape(text: &[u8]) -> Result<Vec<u8>, Refusal> {
     written(raw::levzhada_escape, text)
+}
+
+/// The inverse of [`escape()`] (51, 52): the names `&amp;`, `&quot;`, `&lt;` and `&gt;`, in this spelling and with the semicolon, become
+/// their characters, and every other byte is copied, UTF-8 or not. What a name has become is not read again.
+///
+/// What [`escape()`] wrote is never refused and comes back as it was. The other way round an accepted text comes back exactly where it has
+/// no bare `"`, `<` or `>`. A MinimalHtml text may have an ampersand that is not escaped, as that of an alt in an `a` with links has: it is
+/// refused, unless a name starts there.
+///
+/// ```
+/// use levzhada::Refusal;
+/// assert_eq!(levzhada::unescape(b"1 &lt; 2 &amp;lt;").unwrap(), b"1 < 2 &lt;");
+/// assert_eq!(levzhada::unescape(b"&amp;&x;"), Err(Refusal::Entity(5)));
+/// ```
+pub fn unescape(text: &[u8]) -> Result<Vec<u8>, Refusal> {
+    written(raw::levzhada_unescape, text)
 }
 
 #[cfg(test)]
@@ -400,6 +434,14 @@ mod tests {
             Err(Refusal::Out(MOST))
         );
         assert_eq!(written(answering::<32, 0>, b"a"), Err(Refusal::Out(0)));
+        assert_eq!(
+            written(answering::<52, MOST>, b"a"),
+            Err(Refusal::Characters(MOST))
+        );
+        assert_eq!(
+            written(answering::<52, 1>, b"a"),
+            Err(Refusal::Characters(1))
+        );
     }
 
     #[test]

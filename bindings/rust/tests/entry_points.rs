@@ -118,6 +118,74 @@ fn texts() {
     assert_eq!(levzhada::collapse(b""), ok(b""));
     assert_eq!(levzhada::escape(b"a<\"&"), ok(b"a&lt;&quot;&amp;"));
     assert_eq!(levzhada::escape(b"ab"), ok(b"ab"));
+    assert_eq!(levzhada::unescape(b"a&lt;&quot;&amp;"), ok(b"a<\"&"));
+    assert_eq!(levzhada::unescape(b""), ok(b""));
+}
+
+#[test]
+fn escapes_read_back() {
+    let characters = |text: &[u8]| levzhada::unescape(text).unwrap();
+    assert_eq!(characters(b"&quot;&lt;&gt;&amp;"), b"\"<>&");
+    assert_eq!(characters(b"&amp;lt;"), b"&lt;");
+    assert_eq!(characters(b"&amp;amp;amp;"), b"&amp;amp;");
+    assert_eq!(characters(b"a&amp;b"), b"a&b");
+    assert_eq!(characters(b"<p>\"x\"</p>;amp;"), b"<p>\"x\"</p>;amp;");
+    assert_eq!(characters(b"\xff\0&gt;\x80\xc3"), b"\xff\0>\x80\xc3");
+}
+
+#[test]
+fn ampersands_that_start_no_name() {
+    let refused = |text: &[u8]| levzhada::unescape(text).unwrap_err();
+    for text in ["&amp", "&AMP;", "&#38;", "&apos;", "&", "&;", "& amp;"] {
+        assert_eq!(refused(text.as_bytes()), Refusal::Entity(0), "{text}");
+    }
+    assert_eq!(refused(b"&amp;&x;"), Refusal::Entity(5));
+    assert_eq!(refused(b"aaaa&"), Refusal::Entity(4));
+    assert_eq!(refused(b"&&amp;"), Refusal::Entity(0));
+    assert_eq!(refused(b"\xc3\xa9&&"), Refusal::Entity(2));
+    assert_eq!(
+        refused(b"&amp;&x;").to_string(),
+        "51: the ampersand at 5 starts no name"
+    );
+}
+
+/// Texts of 0 to 200 bytes, of every value, in which those with a name are frequent.
+fn any_bytes() -> impl Iterator<Item = Vec<u8>> {
+    let mut state: u32 = 1;
+    let mut next = move || {
+        state = state.wrapping_mul(1_664_525).wrapping_add(1_013_904_223);
+        (state >> 16) as usize
+    };
+    (0..=200).map(move |length| {
+        let byte = |n: usize| *b"&\"<>".get(n % 16).unwrap_or(&((n >> 4) as u8));
+        (0..length).map(|_| byte(next())).collect()
+    })
+}
+
+#[test]
+fn what_was_escaped_comes_back() {
+    for text in any_bytes() {
+        let escaped = levzhada::escape(&text).unwrap();
+        assert_eq!(levzhada::unescape(&escaped).unwrap(), text);
+        let at = escaped.len();
+        let cut = [escaped, b"&lt".to_vec()].concat();
+        assert_eq!(levzhada::unescape(&cut), Err(Refusal::Entity(at)));
+    }
+}
+
+/// An accepted text is what `escape` writes of its characters, unless a `"`, `<` or `>` stands bare in it.
+#[test]
+fn what_was_read_back_is_escaped_again() {
+    for text in any_bytes() {
+        for bare in ["", "\"", "<", ">"] {
+            let mut escaped = levzhada::escape(&text).unwrap();
+            escaped.extend(bare.bytes());
+            escaped.extend(b"&lt;a");
+            let characters = levzhada::unescape(&escaped).unwrap();
+            let again = levzhada::escape(&characters).unwrap();
+            assert_eq!(again == escaped, bare.is_empty());
+        }
+    }
 }
 
 /// What the header defines a name as.
@@ -145,6 +213,8 @@ fn the_header_has_the_same_numbers() {
         ("OUT_TOO_SHORT", Refusal::Out(0)),
         ("NO_ROW", Refusal::Row(0)),
         ("NO_PATTERN", Refusal::Pattern(0)),
+        ("NO_ENTITY", Refusal::Entity(0)),
+        ("UNESCAPE_OUT_TOO_SHORT", Refusal::Characters(0)),
     ];
     assert_eq!(defined("LEVZHADA_ACCEPTED"), "0");
     assert_eq!(defined("LEVZHADA_WRONG_OPTIONS"), "33");

@@ -169,3 +169,13 @@ fn no_memory_for_out() {
         assert_eq!(refusal.numbers(), (32, 419_430_000));
     }
 }
+
+/// The text is within the limit, its characters beside it are not.
+#[test]
+fn no_memory_for_characters() {
+    if is_limited("no_memory_for_characters", 400_000) {
+        let refusal = levzhada::unescape(&vec![0; 220_000_000]).unwrap_err();
+        assert_eq!(refusal, Refusal::Characters(220_000_000));
+        assert_eq!(refusal.numbers(), (52, 220_000_000));
+    }
+}

@@ -2,6 +2,7 @@ pub mod Answers
 pub mod Choice
 pub mod Equality
 pub mod Every
+pub mod LanesLaws
 pub mod Parts
 pub mod Puts
 pub mod TestLaws

@@ -1,5 +1,6 @@
 pub mod Answer
 pub mod Bytes
+pub mod Lanes
 pub mod Puts
 pub mod Refusals
 pub mod Word

@@ -1,4 +1,4 @@
--- The number of each refusal (document 01, "Who can cause which number"), in the words of include/levzhada.h.
+-- The number of each refusal (document 01, "Who can cause which number"; document 02), in the words of include/levzhada.h.
 use Prim.Native.Nat.{ℕ}
 
 -- ---- the sheet is wrong
@@ -51,3 +51,11 @@ noRow = 35
 
 abbrev pub noPattern : ℕ
 noPattern = 36
+
+-- ---- an escaped text is wrong, or what is read back of it does not fit
+
+abbrev pub noEntity : ℕ
+noEntity = 51
+
+abbrev pub unescapeOutTooShort : ℕ
+unescapeOutTooShort = 52

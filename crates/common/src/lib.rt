@@ -52,6 +52,11 @@ impl Answer {
 
     pub const NO_PATTERN: usize = 36;
 
+    // An escaped text is wrong, or what is read back of it does not fit.
+    pub const NO_ENTITY: usize = 51;
+
+    pub const UNESCAPE_OUT_TOO_SHORT: usize = 52;
+
     pub fn refused(number: usize, second: usize) -> Answer
         ensures { λ r. ⌜ r ≡ refused number second ⌝ }
     {

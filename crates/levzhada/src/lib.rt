@@ -6,6 +6,7 @@ use numbers::of_length;
 use numbers::of_marked;
 use numbers::of_matched;
 use numbers::of_relative;
+use numbers::of_unescaped;
 use numbers::of_verdict;
 use numbers::of_written;
 use numbers::values::LinkMeasure;
@@ -26,6 +27,7 @@ use reader::measure_of;
 use reader::next_sibling_of;
 use reader::parent_of;
 use reader::text_length_of;
+use reader::unescape;
 ghost use mathlib.Core.Path.{_≡_};
 ghost use lib.ListN.{length};
 ghost use Rattle.common.specs.Answer.{outAfter, refused, writtenIn};
@@ -40,6 +42,7 @@ ghost use Rattle.tree.specs.Attributes.{attributeOf};
 ghost use Rattle.tree.specs.Questions.{relativeNumbers};
 ghost use Rattle.tree.specs.Rows.{firstChildOf, nextSiblingOf};
 ghost use Rattle.tree.specs.TextLength.{lengthNumbers};
+ghost use Rattle.unescape.specs.Answers as unescapes;
 ghost use Rattle.levzhada.specs.Answers.{extractNumbers, extractOut, extractWork, markNumbers, markSheet};
 
 // The answer to a wrong option line, before the sheet is looked at.
@@ -155,4 +158,12 @@ pub extern "C" fn levzhada_escape(text: &[u8], out: &mut [u8]) -> Answer
     ensures buffer { λ r. ⌜ now (out .exit) ≡ outAfter (texts.escape (now (text .entry))) (now (out .entry)) ⌝ }
 {
     of_written(escape(text, out))
+}
+
+#[no_mangle]
+pub extern "C" fn levzhada_unescape(text: &[u8], out: &mut [u8]) -> Answer
+    ensures answer { λ r. ⌜ r ≡ unescapes.numbers (unescapes.unescapedIn (now (text .entry)) (length (now (out .entry)))) ⌝ }
+    ensures buffer { λ r. ⌜ now (out .exit) ≡ unescapes.unescapedOut (now (text .entry)) (now (out .entry)) ⌝ }
+{
+    of_unescaped(unescape(text, out))
 }

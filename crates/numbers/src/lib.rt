@@ -11,6 +11,7 @@ use sheet::verdict::Verdict;
 use tree::attributes::AttributeAnswer;
 use tree::content::LengthAnswer;
 use tree::questions::Relative;
+use unescape::Unescaped;
 ghost use mathlib.Core.Path.{_≡_};
 ghost use Rattle.common.specs.Answer as common;
 ghost use Rattle.html2text.specs.Extract as html2text;
@@ -22,6 +23,7 @@ ghost use Rattle.sheet.specs.Verdict as verdict;
 ghost use Rattle.tree.specs.Attributes as attributes;
 ghost use Rattle.tree.specs.Questions as questions;
 ghost use Rattle.tree.specs.TextLength as lengths;
+ghost use Rattle.unescape.specs.Answers as unescapes;
 
 pub mod values;
 
@@ -31,6 +33,16 @@ pub fn of_written(w: Written) -> Answer
     match w {
         Written::Text(n) => Answer::accepted(0, 0, n),
         Written::TooShort(need) => Answer::refused(Answer::OUT_TOO_SHORT, need),
+    }
+}
+
+pub fn of_unescaped(u: Unescaped) -> Answer
+    ensures { λ r. ⌜ r ≡ unescapes.numbers u ⌝ }
+{
+    match u {
+        Unescaped::Text(n) => Answer::accepted(0, 0, n),
+        Unescaped::NoEntity(at) => Answer::refused(Answer::NO_ENTITY, at),
+        Unescaped::TooShort(need) => Answer::refused(Answer::UNESCAPE_OUT_TOO_SHORT, need),
     }
 }
 

@@ -1,14 +1,14 @@
 -- `escape`: of a concatenation, and its length.
 use mathlib.Core.Path.{_≡_, refl, sym, ap, _∙_}
-use mathlib.Core.Bool.{Bool, true, false, cond}
+use mathlib.Core.Bool.{true}
 use mathlib.Core.List.{[], _∷_, _++_, append-assoc}
-use Prim.Native.Nat.{ℕ, suc, _+_, _*_, _≤_, _<_}
+use Prim.Native.Nat.{ℕ, _+_, _*_, _≤_, _<_}
 use native.Mathlib.Omega.{arith}
 use native.Mathlib.Numerals.{add-one}
 use lib.Dec.{eqb}
 use lib.ListN.{length, getD, drop, length-append, drop-of-length-le}
 use lib.Seq.{drop-cons}
-use borrow.Author.Tests.{eqb-true, eq-eqb, ne-eqb}
+use borrow.Author.Tests.{eqb-true, eqb-false, ne-eqb}
 use Rattle.common.specs.Answer.{capped}
 use Rattle.common.specs.Bytes.{Bytes, codes}
 use Rattle.common.proofs.Choice.{by-cond, by-test, absurd-test}
@@ -39,14 +39,19 @@ pub escaped-other : (c : ℕ) → (c ≡ 38 → ⊥) → (c ≡ 34 → ⊥) → 
 unfolding escaped
 escaped-other c n m l g = simp (ne-eqb c 38 n, ne-eqb c 34 m, ne-eqb c 60 l, ne-eqb c 62 g)
 
--- what holds of each entity, and of a byte that has none
-pub escaped-cases {ℓ} : (P : ℕ → Bytes → Type ℓ) → P 38 (codes "&amp;") → P 34 (codes "&quot;") → P 60 (codes "&lt;") → P 62 (codes "&gt;") → ((c : ℕ) → P c (c ∷ [])) → (c : ℕ) → P c (escaped c)
-unfolding escaped
-escaped-cases P a q l g other c =
-    by-test (eqb c 38) (λ e. rw (eqb-true c 38 e) a)
-    (λ n. by-test (eqb c 34) (λ e. rw (eqb-true c 34 e) q)
-    (λ m. by-test (eqb c 60) (λ e. rw (eqb-true c 60 e) l)
-    (λ k. by-test (eqb c 62) (λ e. rw (eqb-true c 62 e) g) (λ j. rw (n, m, k, j) (other c)))))
+module _ {ℓ} (P : ℕ → Bytes → Type ℓ)
+    (a : P 38 (codes "&amp;")) (q : P 34 (codes "&quot;")) (l : P 60 (codes "&lt;")) (g : P 62 (codes "&gt;")) where
+  -- what holds of each entity, and of a byte that has none, which is no ampersand
+  pub escaped-sorts : ((c : ℕ) → (c ≡ 38 → ⊥) → P c (c ∷ [])) → (c : ℕ) → P c (escaped c)
+  unfolding escaped
+  escaped-sorts other c =
+      by-test (eqb c 38) (λ e. rw (eqb-true c 38 e) a)
+      (λ n. by-test (eqb c 34) (λ e. rw (eqb-true c 34 e) q)
+      (λ m. by-test (eqb c 60) (λ e. rw (eqb-true c 60 e) l)
+      (λ k. by-test (eqb c 62) (λ e. rw (eqb-true c 62 e) g) (λ j. rw (n, m, k, j) (other c (eqb-false c 38 n))))))
+
+  pub escaped-cases : ((c : ℕ) → P c (c ∷ [])) → (c : ℕ) → P c (escaped c)
+  escaped-cases other = escaped-sorts (λ c n. other c)
 
 -- a byte that is one byte as `escape` has it stands for itself
 pub escaped-single : (c : ℕ) → length (escaped c) ≡ 1 → escaped c ≡ c ∷ []

@@ -3,7 +3,6 @@ pub mod DigitsLaws
 pub mod DoesLaws
 pub mod FirstLaws
 pub mod HeldLaws
-pub mod LanesLaws
 pub mod OutLaws
 pub mod PlacesLaws
 pub mod PlainLaws

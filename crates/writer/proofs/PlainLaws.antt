@@ -2,36 +2,30 @@
 use mathlib.Core.Path.{_≡_, refl, sym, ap, _∙_}
 use mathlib.Core.Bool.{Bool, true, false, cond}
 use mathlib.Core.List.{[], _∷_, _++_}
-use Prim.Native.Nat.{ℕ, zero, suc, _+_, _*_, _/_, _%_, _^_, _≤_, _<_}
+use Prim.Native.Nat.{ℕ, zero, suc, _+_, _*_, _/_, _%_, _≤_, _<_}
 use native.Mathlib.Omega.{arith}
-use lib.Bits.{bitAnd, bitOr, bitXor, and-block, and-le-l, and-le-r, or-add-and, and-lt, xor-lt, mask-lt}
+use lib.Bits.{bitAnd, bitOr, bitXor, and-block, and-le-l, and-le-r, or-add-and, and-lt}
 use lib.Dec.{eqb, leb}
 use lib.ListN.{length, length-append}
 use lib.Seq.{append-snoc}
 use borrow.Author.Tests.{eqb-true, eqb-false, eq-eqb, ne-eqb, leb-true}
 use Rattle.common.specs.Bytes.{Bytes, codes}
 use Rattle.common.specs.Word.{octets}
+use Rattle.common.specs.Lanes.{lanes, Each}
 use Rattle.common.proofs.Choice.{by-test, absurd-test}
+use Rattle.common.proofs.LanesLaws.{Laned, laned-and, laned-or, laned-xor, laned-add, laned-all, laned-self, laned-same, laned-ext}
+use Rattle.common.proofs.LanesLaws.{lanes-shift, each-octet, each-byte, implies, implied}
+use Rattle.common.proofs.LanesLaws.{low, lows, low-small, lows-are, differs, differences, differs-small, differs-sum}
 use Rattle.common.proofs.Words.{octets-are}
 use Rattle.text.specs.Text.{isSpace, rstrip, escape, escaped, spaceAfter}
 use Rattle.text.proofs.CollapseLaws.{Single, collapse-single}
 use Rattle.text.proofs.EscapeLaws.{escaped-single}
 use Rattle.text.proofs.SpaceLaws.{space-32, space-above}
 use Rattle.text.proofs.TrimLaws.{rstrip-blank, rstrip-other}
-use Rattle.writer.specs.Lanes.{lanes, mark, Each}
-use Rattle.writer.specs.Plain.{Plain, lastOctet}
+use Rattle.writer.specs.Plain.{Plain, lastOctet, mark}
 use Rattle.writer.specs.Shown.{shown, shownTimes}
-use Rattle.writer.proofs.LanesLaws.{Laned, laned-and, laned-or, laned-xor, laned-add, laned-all, laned-self, laned-same, laned-ext}
-use Rattle.writer.proofs.LanesLaws.{lanes-shift, each-octet, each-byte, implies, implied}
 
 -- ---- the tests on a byte: the highest bit of a number says the answer
-
-abbrev low : ℕ → ℕ
-low b = bitAnd b 0x7f
-
--- that b is not c, of two below 0x80
-abbrev differs : ℕ → ℕ → ℕ
-differs c b = bitXor b c + 0x7f
 
 abbrev printedTest : ℕ → ℕ
 printedTest b = bitAnd (bitOr (low b + 0x60) b) 0x80
@@ -61,18 +55,6 @@ bare-byte b h e =
 
 -- ---- the same on eight bytes
 
-low-small : (b : ℕ) → low b < 2 ^ 7
-low-small b = mask-lt b 7
-
-differs-small : (c b : ℕ) → c < 2 ^ 7 → b < 2 ^ 7 → differs c b < 256
-differs-small c b h l = omega (arith, xor-lt 7 b c l h)
-
-abbrev lows : ℕ → ℕ
-lows w = bitAnd w 0x7f7f7f7f7f7f7f7f
-
-abbrev differences : ℕ → ℕ → ℕ
-differences c x = bitXor x (c * 0x0101010101010101) + 0x7f7f7f7f7f7f7f7f
-
 abbrev entityTests : ℕ → ℕ
 entityTests w =
     bitAnd (bitAnd (differences 0x26 (lows w)) (differences 0x22 (lows w))) (differences 0x3c (bitAnd (lows w) 0x7d7d7d7d7d7d7d7d))
@@ -81,34 +63,26 @@ module _ (w : ℕ) (h : w < 0x10000000000000000) where
   whole : Laned (λ b. b) w w
   whole = laned-self w h
 
-  lows-are : Laned low w (lows w)
-  lows-are = laned-and whole (laned-all w 0x7f (omega arith))
-
   top : Laned (λ b. 0x80) w 0x8080808080808080
   top = laned-all w 0x80 (omega arith)
 
   pub printed-sum : Laned (λ b. low b + 0x60) w (lows w + 0x6060606060606060)
-  printed-sum = laned-add lows-are (laned-all w 0x60 (omega arith)) (λ b l. omega (arith, low-small b))
+  printed-sum = laned-add (lows-are w h) (laned-all w 0x60 (omega arith)) (λ b l. omega (arith, low-small b))
 
   pub printed : bitAnd (bitOr (lows w + 0x6060606060606060) w) 0x8080808080808080 ≡ 0x8080808080808080 → Each (λ c. 0x20 ≤ c) (octets 8 w)
   printed e = each-octet printed-byte 8 w (laned-same (laned-and (laned-or printed-sum whole) top) top e)
 
-  pub differs-sum : (c : ℕ) → c < 2 ^ 7 → Laned (λ b. differs c (low b)) w (differences c (lows w))
-  differs-sum c l =
-      laned-add (laned-xor lows-are (laned-all w c (omega arith))) (laned-all w 0x7f (omega arith))
-      (λ b k. differs-small c (low b) l (low-small b))
-
   pub spaces-are : bitXor (bitAnd (bitOr (differences 0x20 (lows w)) w) 0x8080808080808080) 0x8080808080808080 ≡ lanes mark 8 w
-  spaces-are = laned-ext (laned-xor (laned-and (laned-or (differs-sum 0x20 (omega arith)) whole) top) top) mark space-byte
+  spaces-are = laned-ext (laned-xor (laned-and (laned-or (differs-sum w h 0x20 (omega arith)) whole) top) top) mark space-byte
 
   pub angle-sum : Laned (λ b. differs 0x3c (bitAnd (low b) 0x7d)) w (differences 0x3c (bitAnd (lows w) 0x7d7d7d7d7d7d7d7d))
   angle-sum =
-      laned-add (laned-xor (laned-and lows-are (laned-all w 0x7d (omega arith))) (laned-all w 0x3c (omega arith)))
+      laned-add (laned-xor (laned-and (lows-are w h) (laned-all w 0x7d (omega arith))) (laned-all w 0x3c (omega arith)))
       (laned-all w 0x7f (omega arith))
       (λ b k. differs-small 0x3c (bitAnd (low b) 0x7d) (omega arith) (and-lt 7 (low b) 0x7d (low-small b) (omega arith)))
 
   entities : Laned entityTest w (entityTests w)
-  entities = laned-and (laned-and (differs-sum 0x26 (omega arith)) (differs-sum 0x22 (omega arith))) angle-sum
+  entities = laned-and (laned-and (differs-sum w h 0x26 (omega arith)) (differs-sum w h 0x22 (omega arith))) angle-sum
 
   pub bares : Laned bareTest w (bitAnd (bitOr (entityTests w) w) 0x8080808080808080)
   bares = laned-and (laned-or entities whole) top

@@ -1,5 +1,4 @@
 pub mod Digits
-pub mod Lanes
 pub mod Out
 pub mod Plain
 pub mod Shown

@@ -8,6 +8,10 @@ use Rattle.common.specs.Word.{octets}
 use Rattle.text.specs.Text.{isSpace, rstrip, spaceAfter}
 use Rattle.writer.specs.Shown.{shownTimes}
 
+-- 0x80 for U+0020
+abbrev pub mark : ℕ → ℕ
+mark c = cond (eqb c 0x20) 0x80 0
+
 -- the last of the eight bytes of w
 abbrev pub lastOctet : ℕ → ℕ
 lastOctet w = w / 0x100000000000000

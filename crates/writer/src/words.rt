@@ -5,10 +5,10 @@ ghost use mathlib.Core.Path.{_≡_};
 ghost use Prim.Native.Nat.{_%_, _+_, _≤_};
 ghost use lib.ListN.{length};
 ghost use lib.Seq.{sets};
+ghost use Rattle.common.specs.Lanes.{Each, lanes};
 ghost use Rattle.common.specs.Word.{octets};
 ghost use Rattle.text.specs.Text.{escape};
-ghost use Rattle.writer.specs.Lanes.{Each, lanes, mark};
-ghost use Rattle.writer.specs.Plain.{Plain, lastOctet};
+ghost use Rattle.writer.specs.Plain.{Plain, lastOctet, mark};
 
 // 0 where no byte is below U+0020.
 fn controls(w: usize) -> usize

@@ -2,7 +2,7 @@
 use native.Mathlib.Omega.{arith}
 use lib.Bits.{bitAnd, bitOr, and-le-r}
 use Prim.Native.Nat.{ℕ, _+_, _≤_}
-use Rattle.writer.proofs.LanesLaws.{laned-small}
+use Rattle.common.proofs.LanesLaws.{laned-small}
 use Rattle.writer.proofs.PlainLaws.{printed, printed-sum}
 use Rattle.writer.proofs.words.controls.Statement.{statement}
 use Rattle.writer.proofs.words.controls.Tie as tie

@@ -1,8 +1,8 @@
 -- `is_bare` meets its contract.
 use native.Mathlib.Omega.{arith}
 use borrow.Author.Tests.{eqb-true}
-use Rattle.writer.proofs.LanesLaws.{laned-small}
-use Rattle.writer.proofs.PlainLaws.{differs-sum, angle-sum, bares, bare}
+use Rattle.common.proofs.LanesLaws.{laned-small, differs-sum}
+use Rattle.writer.proofs.PlainLaws.{angle-sum, bares, bare}
 use Rattle.writer.proofs.words.is_bare.Statement.{statement}
 use Rattle.writer.proofs.words.is_bare.Tie as tie
 

@@ -1,7 +1,7 @@
 -- `spaces` meets its contract.
 use native.Mathlib.Omega.{arith}
-use Rattle.writer.proofs.LanesLaws.{laned-small}
-use Rattle.writer.proofs.PlainLaws.{differs-sum, spaces-are}
+use Rattle.common.proofs.LanesLaws.{laned-small, differs-sum}
+use Rattle.writer.proofs.PlainLaws.{spaces-are}
 use Rattle.writer.proofs.words.spaces.Statement.{statement}
 use Rattle.writer.proofs.words.spaces.Tie as tie
 

@@ -4,11 +4,11 @@ use mathlib.Core.Bool.{Bool, true, false, _||_, not}
 use Prim.Native.Nat.{ℕ, zero, suc, _+_, _*_, _/_, _%_, _^_, _<_}
 use native.Mathlib.Nat.{pow-suc}
 use native.Mathlib.Omega.{arith}
-use lib.Bits.{bitAnd, bitOr, bitXor, and-block, or-block, xor-block, and-lt, or-lt, xor-lt}
+use lib.Bits.{bitAnd, bitOr, bitXor, and-block, or-block, xor-block, and-lt, or-lt, xor-lt, mask-lt}
 use Rattle.common.specs.Word.{octets}
 use Rattle.common.proofs.Choice.{absurd-test}
 use Rattle.common.proofs.Every.{every, every-at}
-use Rattle.writer.specs.Lanes.{lanes, Each}
+use Rattle.common.specs.Lanes.{lanes, Each}
 
 abbrev Small : (ℕ → ℕ) → Type 0
 Small f = (b : ℕ) → b < 256 → f b < 256
@@ -131,3 +131,35 @@ implied false b e h = absurd-test h refl
 
 pub each-byte : (test : ℕ → Bool) → every test 0 256 ≡ true → (b : ℕ) → b < 256 → test b ≡ true
 each-byte test e b h = every-at test 0 256 e b (omega arith) (omega arith)
+
+-- ---- which bytes are not c: the highest bit of each byte of a number says so, of bytes below 0x80
+
+abbrev pub low : ℕ → ℕ
+low b = bitAnd b 0x7f
+
+-- that b is not c, of two below 0x80
+abbrev pub differs : ℕ → ℕ → ℕ
+differs c b = bitXor b c + 0x7f
+
+pub low-small : (b : ℕ) → low b < 2 ^ 7
+low-small b = mask-lt b 7
+
+pub differs-small : (c b : ℕ) → c < 2 ^ 7 → b < 2 ^ 7 → differs c b < 256
+differs-small c b h l = omega (arith, xor-lt 7 b c l h)
+
+-- the same on eight bytes
+
+abbrev pub lows : ℕ → ℕ
+lows w = bitAnd w 0x7f7f7f7f7f7f7f7f
+
+abbrev pub differences : ℕ → ℕ → ℕ
+differences c x = bitXor x (c * 0x0101010101010101) + 0x7f7f7f7f7f7f7f7f
+
+module _ (w : ℕ) (h : w < 0x10000000000000000) where
+  pub lows-are : Laned low w (lows w)
+  lows-are = laned-and (laned-self w h) (laned-all w 0x7f (omega arith))
+
+  pub differs-sum : (c : ℕ) → c < 2 ^ 7 → Laned (λ b. differs c (low b)) w (differences c (lows w))
+  differs-sum c l =
+      laned-add (laned-xor lows-are (laned-all w c (omega arith))) (laned-all w 0x7f (omega arith))
+      (λ b k. differs-small c (low b) l (low-small b))

@@ -1,18 +1,12 @@
 -- The bytes of a number, each told and changed by itself.
-use mathlib.Core.Bool.{cond}
 use mathlib.Core.List.{[], _∷_}
 use Prim.Native.Nat.{ℕ, zero, suc, _+_, _*_, _/_, _%_}
-use lib.Dec.{eqb}
 use Rattle.common.specs.Bytes.{Bytes}
 
 -- the k lowest bytes of w, each as f has it
 unfoldable pub lanes : (ℕ → ℕ) → ℕ → ℕ → ℕ
 lanes f zero w = 0
 lanes f (suc k) w = lanes f k (w / 256) * 256 + f (w % 256)
-
--- 0x80 for U+0020
-abbrev pub mark : ℕ → ℕ
-mark c = cond (eqb c 0x20) 0x80 0
 
 -- what holds of each byte
 abbrev pub Each : (ℕ → Type 0) → Bytes → Type 0

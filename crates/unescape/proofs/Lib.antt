@@ -1,0 +1,10 @@
+pub mod AnswerLaws
+pub mod ExampleLaws
+pub mod FreeLaws
+pub mod InverseLaws
+pub mod MeasureLaws
+pub mod PartLaws
+pub mod PutLaws
+pub mod RefusalLaws
+pub mod StartsLaws
+pub mod UnescapeLaws
