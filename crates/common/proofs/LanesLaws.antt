@@ -5,10 +5,10 @@ use Prim.Native.Nat.{ℕ, zero, suc, _+_, _*_, _/_, _%_, _^_, _<_}
 use native.Mathlib.Nat.{pow-suc}
 use native.Mathlib.Omega.{arith}
 use lib.Bits.{bitAnd, bitOr, bitXor, and-block, or-block, xor-block, and-lt, or-lt, xor-lt, mask-lt}
+use Rattle.common.specs.Lanes.{lanes, Each}
 use Rattle.common.specs.Word.{octets}
 use Rattle.common.proofs.Choice.{absurd-test}
 use Rattle.common.proofs.Every.{every, every-at}
-use Rattle.common.specs.Lanes.{lanes, Each}
 
 abbrev Small : (ℕ → ℕ) → Type 0
 Small f = (b : ℕ) → b < 256 → f b < 256

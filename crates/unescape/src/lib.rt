@@ -20,9 +20,9 @@ pub enum Unescaped {
 }
 
 // What an ampersand starts: a character and its name's length, or the ampersand itself with length 1.
-pub struct Part {
-    pub character: u8,
-    pub len: usize,
+struct Part {
+    character: u8,
+    len: usize,
 }
 
 // Whether no byte of the eight is an ampersand.
