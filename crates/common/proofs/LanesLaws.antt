@@ -1,10 +1,13 @@
 -- Operations on numbers that are made on each of their bytes by itself.
 use mathlib.Core.Path.{_≡_, refl, sym, ap, _∙_}
 use mathlib.Core.Bool.{Bool, true, false, _||_, not}
+use mathlib.Core.List.{[], _∷_}
 use Prim.Native.Nat.{ℕ, zero, suc, _+_, _*_, _/_, _%_, _^_, _<_}
 use native.Mathlib.Nat.{pow-suc}
 use native.Mathlib.Omega.{arith}
 use lib.Bits.{bitAnd, bitOr, bitXor, and-block, or-block, xor-block, and-lt, or-lt, xor-lt, mask-lt}
+use lib.ListN.{length, getD}
+use Rattle.common.specs.Bytes.{Bytes}
 use Rattle.common.specs.Lanes.{lanes, Each}
 use Rattle.common.specs.Word.{octets}
 use Rattle.common.proofs.Choice.{absurd-test}
@@ -65,6 +68,11 @@ lanes-same f g h l zero w e = tt
 lanes-same f g h l (suc k) w e =
     let p = digits-same _ (f (w % 256)) _ (g (w % 256)) (h (w % 256) (omega arith)) (l (w % 256) (omega arith)) e in
     (p .0, lanes-same f g h l k (w / 256) (p .1))
+
+pub each-at : (P : ℕ → Type 0) (s : Bytes) → Each P s → (k : ℕ) → k < length s → P (getD s k 0)
+each-at P [] e k h = absurd (omega arith)
+each-at P (c ∷ s) e zero h = e .0
+each-at P (c ∷ s) e (suc k) h = each-at P s (e .1) k (omega arith)
 
 pub each-octet : {P Q : ℕ → Type 0} → ((b : ℕ) → b < 256 → P b → Q b) → (k w : ℕ) → Each P (octets k w) → Each Q (octets k w)
 unfolding octets

@@ -1,8 +1,8 @@
 -- Bytes that are no ampersand: eight at once, and a run of them.
 use mathlib.Core.Path.{_≡_, refl, sym, ap, _∙_}
 use mathlib.Core.Bool.{not}
-use mathlib.Core.List.{[], _∷_, _++_}
-use Prim.Native.Nat.{ℕ, zero, suc, _+_, _-_, _≤_, _<_}
+use mathlib.Core.List.{_++_}
+use Prim.Native.Nat.{ℕ, _+_, _-_, _≤_, _<_}
 use native.Mathlib.Omega.{arith}
 use lib.Bits.{bitAnd, bitOr}
 use lib.Dec.{eqb, ltb}
@@ -13,8 +13,8 @@ use Rattle.common.specs.Bytes.{Bytes}
 use Rattle.common.specs.Lanes.{Each}
 use Rattle.common.specs.Word.{octets}
 use Rattle.common.proofs.Choice.{by-test}
-use Rattle.common.proofs.LanesLaws.{laned-and, laned-or, laned-all, laned-self, laned-same, each-octet, each-byte, implies, implied}
-use Rattle.common.proofs.LanesLaws.{low, lows, differs, differences, differs-sum}
+use Rattle.common.proofs.LanesLaws.{laned-and, laned-or, laned-all, laned-self, laned-same}
+use Rattle.common.proofs.LanesLaws.{each-at, each-octet, each-byte, implies, implied, low, lows, differs, differences, differs-sum}
 use Rattle.unescape.specs.Inner.{FreeOf}
 use Rattle.unescape.specs.Unescape.{ampersand}
 use Rattle.unescape.proofs.UnescapeLaws.{Free}
@@ -34,11 +34,6 @@ pub free-octets : (w : ℕ) → w < 0x10000000000000000
 free-octets w h e =
     let top = laned-all w 0x80 (omega arith) in
     each-octet free-byte 8 w (laned-same (laned-and (laned-or (differs-sum w h ampersand (omega arith)) (laned-self w h)) top) top e)
-
-each-at : (P : ℕ → Type 0) (s : Bytes) → Each P s → (k : ℕ) → k < length s → P (getD s k 0)
-each-at P [] e k h = absurd (omega arith)
-each-at P (c ∷ s) e zero h = e .0
-each-at P (c ∷ s) e (suc k) h = each-at P s (e .1) k (omega arith)
 
 -- ---- a run that grows
 
