@@ -1,28 +1,26 @@
 -- The answer and the buffers at each return: a limit passed, work too short, out too short, a text.
 use mathlib.Core.Path.{_≡_, refl, ap, _∙_}
 use mathlib.Core.Bool.{true}
-use mathlib.Core.List.{List, [], _++_}
-use Prim.Native.Nat.{ℕ, _+_, _-_, _≤_, _<_}
+use mathlib.Core.List.{_++_}
+use Prim.Native.Nat.{ℕ, _-_, _≤_, _<_}
 use native.Mathlib.Omega.{arith}
-use lib.Dec.{ltb}
 use lib.ListN.{length, take, replicate, length-take}
 use borrow.Author.Tests.{lt-ltb, le-ltb}
 use Rattle.common.specs.Bytes.{Bytes, padded}
 use Rattle.text.specs.Text.{isSpace, rstrip}
 use Rattle.text.proofs.TrimLaws.{rstrip-length}
-use Rattle.writer.specs.Out.{Out, strip}
-use Rattle.writer.specs.Writing.{Held, trimmed}
+use Rattle.writer.specs.Out.{Out, stripBy}
+use Rattle.writer.specs.Writing.{Held}
 use Rattle.writer.specs.declared.Writer.{Writer}
 use Rattle.writer.proofs.HeldLaws.{trim-does}
-use Rattle.html2text.specs.Extract.{Run, going, tooManyLevels, tooManyRows, finished}
+use Rattle.html2text.specs.Extract.{Run, going, tooManyLevels, tooManyRows}
 use Rattle.html2text.specs.Serialize.{State}
-use Rattle.html2text.specs.declared.Extraction.{Extraction}
 use Rattle.html2text.specs.declared.Extraction.the-variants.{Text, ListLevels, OpenRows, WorkTooShort, OutTooShort}
 use Rattle.extract.specs.Concluding.{Concludes}
 
 -- the text without the blanks at its end, and zeros behind it
 pub text-padded : {under buf : Bytes} {w : Writer} {o : Out} → Held true under w buf o → take (w .kept) buf ++ replicate (length buf - w .kept) 0 ≡ padded (rstrip (o .text)) (length under)
-unfolding strip
+unfolding stripBy
 text-padded {under} {buf} {w} {o} h =
     let t = trim-does true w buf .run under o h .text refl in
     rw (h .kept, t, h .long)

@@ -15,7 +15,7 @@ use Rattle.sheet.specs.Verdict.{verdict}
 use Rattle.sheet.specs.declared.line.Layout.{Layout}
 use Rattle.sheet.specs.declared.verdict.Verdict.the-variants.{Sheet}
 use Rattle.sheet.proofs.Acceptance.{accepts}
-use Rattle.tree.specs.Forest.{Forest, empty, node}
+use Rattle.tree.specs.Forest.{Forest, empty, node, hasTrees}
 use Rattle.tree.specs.Node.{Node}
 use Rattle.tree.specs.Page.{Page, pageOf, SamePage}
 use Rattle.tree.specs.Rows.{build, numbered, childrenOf}
@@ -26,7 +26,7 @@ use Rattle.html2text.specs.Collect.{Event, Entry, pushes, pushed, amende
 use Rattle.html2text.specs.Extract.{Run, going, tooManyLevels, tooManyRows, passesLevels, passesRows, taken, serialized, longestText, namesLength, longestNames, concluded, outThen, workThen, hidden, entries, passes, workNeed, extraction, outAfter, workAfter, filteredBy, extractionOf, outAfterOf, workAfterOf}
 use Rattle.html2text.specs.Pieces.{Piece, rowPieces, along, pieces}
 use Rattle.html2text.specs.Serialize.{one}
-use Rattle.html2text.specs.Walk.{isComment, hasTrees, leftOut, events, visits, treeOf}
+use Rattle.html2text.specs.Walk.{isComment, leftOut, events, visits, treeOf}
 use Rattle.html2text.specs.declared.Extraction.{Extraction}
 use Rattle.html2text.proofs.PageLaws.{page-right}
 use Rattle.html2text.specs.declared.Extraction.the-variants.{Text, Refused, ListLevels, OpenRows, WorkTooShort, OutTooShort}

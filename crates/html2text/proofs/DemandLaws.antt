@@ -19,12 +19,12 @@ use Rattle.html2text.specs.Theorems.{PageRight}
 use Rattle.html2text.specs.Walk.{events, treeOf}
 use Rattle.html2text.proofs.BlankRuns.{blanks-of-calm}
 use Rattle.html2text.proofs.CollectLaws.{plain-all}
+use Rattle.html2text.proofs.ConditionLaws.{page-parents, page-cells}
 use Rattle.html2text.proofs.FurtherPieces.{further, further-pieces}
 use Rattle.html2text.proofs.GivenLaws.{TextOf}
 use Rattle.html2text.proofs.LostStrip.{kept-pieces}
 use Rattle.html2text.proofs.OffLaws.{off, Written, serialized-off}
 use Rattle.common.proofs.TestLaws.{or-left}
-use Rattle.html2text.proofs.Standing.{page-parents, page-cells}
 
 off-same : (o : ExtractOptions) → o .formatting ≡ Off → o ≡ off o
 off-same o e = ap (λ (f : Formatting). withFormatting f o) e

@@ -4,13 +4,13 @@ use mathlib.Core.List.{List, [], _∷_, _++_}
 use mathlib.Core.Option.{Option}
 use Prim.Native.Nat.{ℕ, suc, _<_}
 use lib.ListN.{length}
-use Rattle.tree.specs.Forest.{Forest, empty, node}
+use Rattle.tree.specs.Forest.{Forest, empty, node, hasTrees}
 use Rattle.tree.specs.Page.{Page}
 use Rattle.tree.specs.Rows.{childrenOf, firstChildOf, nextSiblingOf}
+use Rattle.tree.proofs.Standing.{Stands, root-stands}
 use Rattle.html2text.specs.Bounds.{Each}
 use Rattle.html2text.specs.Collect.{Event}
-use Rattle.html2text.specs.Walk.{hasTrees, leftOut, eventAt, events, treeOf}
-use Rattle.html2text.proofs.Standing.{Stands, root-stands}
+use Rattle.html2text.specs.Walk.{leftOut, eventAt, events, treeOf}
 
 module _ (P : Event → Type 0) where
   -- events one after the other

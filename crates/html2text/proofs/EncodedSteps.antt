@@ -15,7 +15,7 @@ use Rattle.tags.specs.Tags.{nameOf, tagNames, isTr, isCell, isList, isLi, isPre
 use Rattle.tags.specs.Words.{words, firstWord, otherWords}
 use Rattle.utf8.specs.Abnf.{UTF8-octets, none}
 use Rattle.utf8.specs.Valid.{expect, valid}
-use Rattle.writer.specs.Out.{Out, pushAll, strip}
+use Rattle.writer.specs.Out.{Out, pushAll, stripBy, strip}
 use Rattle.writer.proofs.OutLaws.{push-all-text}
 use Rattle.html2text.specs.Serialize.{State, one, endsBlank, collapses, separated, marginOut, margin, rows, between, besideCell, inRow, cell, countUncollapsed, changesLevel, level, numberOf, bulletText, numberText, item, itemOut, htmlItem, htmlPre, htmlBr, htmlMarks, wantsTag, opensTag, beforeTag, tagOut, htmlTag, blockAfterMarks, blockAfterTag, blockMargin, trims, shortened, indentText, lead, putText, afterOff, afterBasic, finishHtml, afterHtml, stepBy, after, step}
 use Rattle.html2text.specs.declared.ExtractNode.{ExtractNode}
@@ -30,7 +30,7 @@ pushed : {s : Bytes} (o : Out) → UTF8-octets s → Written o → Written (push
 pushed {s} o p h = subst UTF8-octets (sym (push-all-text s o)) (octets-append h p)
 
 stripped : (o : Out) → Written o → Written (strip o)
-unfolding strip
+unfolding stripBy
 stripped o h = octets-rstrip h
 
 spaces : (k : ℕ) → UTF8-octets (replicate k 0x20)

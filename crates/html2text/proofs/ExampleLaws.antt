@@ -13,7 +13,7 @@ use Rattle.tree.specs.Page.{kindOf, nodeAt}
 use Rattle.tree.specs.Rows.{build, numbered}
 use Rattle.utf8.specs.Valid.{expect, valid}
 use Rattle.writer.specs.Digits.{digits, digitsIn}
-use Rattle.writer.specs.Out.{greater, push, pushAll, strip}
+use Rattle.writer.specs.Out.{greater, push, pushAll, stripBy}
 use Rattle.html2text.specs.Collect.{addedByElement, added, collect, collectAll}
 use Rattle.html2text.specs.Examples.{isRight, areRight, pages, isCallRight, areCallsRight, calls, isSheetRight, areSheetsRight, sheets, ExamplesAreRight}
 use Rattle.html2text.specs.Extract.{serialized, longestText, namesLength, longestNames, extraction, outAfter, workAfter, extractionOf, outAfterOf, workAfterOf}
@@ -25,7 +25,7 @@ unfolding
     pages calls sheets areRight isRight areCallsRight isCallRight areSheetsRight isSheetRight extractionOf outAfterOf workAfterOf extraction outAfter workAfter serialized longestText namesLength longestNames
     endsBlank separated marginOut margin rows between besideCell inRow cell countUncollapsed level numberOf item itemOut htmlItem htmlPre htmlBr htmlMarks
     beforeTag tagOut htmlTag blockMargin indentText lead putText afterOff afterBasic finishHtml afterHtml stepBy
-    addedByElement added collect collectAll events visits build numbered tag attribute digits digitsIn greater push pushAll strip
+    addedByElement added collect collectAll events visits build numbered tag attribute digits digitsIn greater push pushAll stripBy
     codes same words firstWord otherWords oneOf tagNames tagOf nameOf numberFrom
     isSpace isAsciiWhitespace trimStartBy rstripBy trimBy collapseFrom collapseBy escaped escape
     verdictOf judged nodeFormat attributeFormat nodeKind kindRight bodyRight nodeTree nodeRange attributeRange textRight nodeText attributeText countsFrom

@@ -5,10 +5,10 @@ use mathlib.Core.List.{List, [], _∷_, _++_}
 use Prim.Native.Nat.{ℕ}
 use Rattle.common.specs.Bytes.{Bytes}
 use Rattle.options.specs.declared.ExtractOptions.{ExtractOptions}
-use Rattle.tree.specs.Forest.{Forest, empty, node}
+use Rattle.tree.specs.Forest.{Forest, empty, node, hasTrees}
 use Rattle.tree.specs.Node.{Node}
 use Rattle.html2text.specs.Pieces.{Piece, rowPieces, along, pieces, anyOf, without}
-use Rattle.html2text.specs.Walk.{isComment, hasTrees, leftOut}
+use Rattle.html2text.specs.Walk.{isComment, leftOut}
 use Rattle.common.proofs.TestLaws.{or-left, or-right}
 
 module _ (test : ℕ → Bool) where

@@ -14,7 +14,7 @@ use Rattle.options.specs.Options.{isOff}
 use Rattle.options.specs.declared.ExtractOptions.{ExtractOptions}
 use Rattle.options.specs.declared.Formatting.{Formatting}
 use Rattle.tags.specs.Tags.{isUl, isOl, isList, isLi, isBlockTag}
-use Rattle.tree.specs.Forest.{Forest, empty, node}
+use Rattle.tree.specs.Forest.{Forest, empty, node, hasTrees}
 use Rattle.tree.specs.Node.{Node}
 use Rattle.tree.specs.Page.{Page}
 use Rattle.html2text.specs.Collect.{Event, Entry, tagNumber, pushes, pushed, amended, onLast, collect, collectAll}
@@ -22,7 +22,7 @@ use Rattle.html2text.specs.Extract.{going, serialized}
 use Rattle.html2text.specs.Levels.{depthAfter}
 use Rattle.html2text.specs.Serialize.{State, countUncollapsed, changesLevel, level, after, step}
 use Rattle.html2text.specs.Theorems.{LevelMet}
-use Rattle.html2text.specs.Walk.{hasTrees, leftOut, eventAt, events, treeOf}
+use Rattle.html2text.specs.Walk.{leftOut, eventAt, events, treeOf}
 use Rattle.html2text.specs.declared.ExtractNode.{ExtractNode}
 use Rattle.html2text.proofs.CollectLaws.{collect-all-append, block-pushes}
 use Rattle.html2text.proofs.LevelLaws.{step-levels, level-long}

@@ -5,6 +5,7 @@ pub mod AnswerBounds
 pub mod BlankRuns
 pub mod BoundLaws
 pub mod CollectLaws
+pub mod ConditionLaws
 pub mod CountLaws
 pub mod Demand3Laws
 pub mod DemandLaws
@@ -31,6 +32,5 @@ pub mod RiseLaws
 pub mod RunLaws
 pub mod SaidLaws
 pub mod ShowingLaws
-pub mod Standing
 pub mod StepBounds
 pub mod WalkLaws

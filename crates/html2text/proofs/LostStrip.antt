@@ -9,12 +9,12 @@ use Rattle.common.proofs.Choice.{absurd-test}
 use Rattle.options.specs.declared.ExtractOptions.{ExtractOptions}
 use Rattle.tags.specs.Tags.{isCell}
 use Rattle.text.specs.Text.{struck}
-use Rattle.tree.specs.Forest.{Forest, empty, node}
+use Rattle.tree.specs.Forest.{Forest, empty, node, hasTrees}
 use Rattle.tree.specs.Node.{element, Node}
 use Rattle.html2text.specs.Collect.{Event, Entry, tagNumber, pushes, collect, collectAll}
 use Rattle.html2text.specs.Demand.{isCellNode, isBlankText}
 use Rattle.html2text.specs.Pieces.{Piece, rowPieces, along, pieces, struckPieces}
-use Rattle.html2text.specs.Walk.{isComment, hasTrees, leftOut, eventAt, events}
+use Rattle.html2text.specs.Walk.{isComment, leftOut, eventAt, events}
 use Rattle.html2text.proofs.CollectLaws.{collect-all-append, lost, depthOf, lost-pushed, depth-pushed, lost-stayed, depth-stayed, deep-pushes, cell-pushes, kept-collect}
 use Rattle.html2text.proofs.OffLaws.{off, kept}
 use Rattle.common.proofs.TestLaws.{or-left, or-right, or-cases, or-neither}

@@ -13,7 +13,7 @@ use Rattle.tags.specs.Tags.{isCell, isA, isTextarea, isImage, isButton, isInput
 use Rattle.tags.specs.Words.{is, oneOf, words}
 use Rattle.tags.proofs.TagLaws.{tag-tests}
 use Rattle.text.specs.Text.{trim, escape}
-use Rattle.tree.specs.Forest.{Forest, empty, node}
+use Rattle.tree.specs.Forest.{Forest, empty, node, hasTrees}
 use Rattle.tree.specs.Node.{Kind, element, text, comment, Attribute, Node, tag, attribute, isThere, orEmpty}
 use Rattle.tree.specs.Page.{Page}
 use Rattle.tree.proofs.NodeLaws.{tag-of-element, attribute-cons-here, attribute-cons-next}
@@ -24,7 +24,7 @@ use Rattle.html2text.specs.Extract.{serialized, taken, longestText, long
 use Rattle.html2text.specs.MissingAlt.{lacksAlt, withAlt, GiveTheSame, MissingAltRight}
 use Rattle.html2text.specs.Pieces.{shownValue, elementPieces, rowPieces, along, pieces}
 use Rattle.html2text.specs.Serialize.{one}
-use Rattle.html2text.specs.Walk.{hasTrees, leftOut, events, visits, treeOf}
+use Rattle.html2text.specs.Walk.{leftOut, events, visits, treeOf}
 use Rattle.html2text.proofs.AlikeLaws.{map-cond}
 
 -- two choices by one test

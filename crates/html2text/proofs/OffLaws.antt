@@ -15,7 +15,7 @@ use Rattle.tags.specs.Tags.{isTr, isCell}
 use Rattle.text.specs.Text.{isSpace, isAsciiWhitespace, collapse, struckBy, struck, escape}
 use Rattle.text.proofs.SpaceLaws.{space-32}
 use Rattle.text.proofs.StruckLaws.{struck-append, struck-trim-start, struck-rstrip, struck-collapse}
-use Rattle.writer.specs.Out.{Out, pushAll, strip}
+use Rattle.writer.specs.Out.{Out, pushAll, stripBy, strip}
 use Rattle.writer.proofs.OutLaws.{push-all-text}
 use Rattle.html2text.specs.Collect.{Entry}
 use Rattle.html2text.specs.Extract.{going, serialized}
@@ -56,7 +56,7 @@ alike-then : {t u v : Bytes} → Alike t u → Alike u v → Alike t v
 alike-then a b = record { text = b .text ∙ a .text; calm = λ h. b .calm (a .calm h) }
 
 alike-strip : (o : Out) → Alike (o .text) (strip o .text)
-unfolding strip
+unfolding stripBy
 alike-strip o = record { text = struck-rstrip isSpace (o .text); calm = calm-rstrip 0 (o .text) }
 
 struck-space : (t : Bytes) → struck (t ++ 0x20 ∷ []) ≡ struck t
@@ -76,7 +76,7 @@ record Parted (o p : Out) : Type 0 where
   last : run 0 (o .text) ≡ 0 → OneLast p
 
 parted-bare : (size : ℕ) (o : Out) → Parted o (separated true size (strip o))
-unfolding separated strip
+unfolding separated stripBy
 parted-bare size o =
     let s = strip o in
     let bare : run 0 (s .text) ≡ 0 = run-rstrip (o .text) in

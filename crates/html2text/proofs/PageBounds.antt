@@ -24,14 +24,14 @@ use Rattle.text.specs.Text.{isSpace, trim, escape}
 use Rattle.text.proofs.EscapeLaws.{escape-length}
 use Rattle.text.proofs.TrimLaws.{trim-length}
 use Rattle.tree.specs.Attributes.{nameAt, valueAt, attributesFrom}
-use Rattle.tree.specs.Forest.{Forest, empty, node}
+use Rattle.tree.specs.Forest.{Forest, empty, node, hasTrees}
 use Rattle.tree.specs.Node.{Node, attribute, orEmpty, attributeOrEmpty}
 use Rattle.tree.specs.Page.{nodeAt, pageOf}
 use Rattle.tree.proofs.NodeLaws.{by-kind}
 use Rattle.html2text.specs.Bounds.{Each, AddsAtMost, EventsBounded, addedIn}
 use Rattle.html2text.specs.Collect.{Event, tagNumber, attr, isLink, isBreak, linkText, isUnshownType, fieldValue, missingAlt, altText, addedByElement, added}
 use Rattle.html2text.specs.Serialize.{one}
-use Rattle.html2text.specs.Walk.{hasTrees, leftOut, eventAt, events, visits, treeOf}
+use Rattle.html2text.specs.Walk.{leftOut, eventAt, events, visits, treeOf}
 use Rattle.html2text.proofs.EachLaws.{tree-each}
 use Rattle.html2text.proofs.PageLaws.{page-right}
 use Rattle.html2text.proofs.WalkLaws.{walk-of-tree}

@@ -14,7 +14,7 @@ use Rattle.options.specs.declared.Formatting.{Formatting}
 use Rattle.options.specs.declared.Formatting.the-variants.{Off, Basic, MinimalHtml}
 use Rattle.tags.specs.Tags.{nameOf, isTr, isCell, isList, isLi, isPre, isBr}
 use Rattle.text.specs.Text.{escape}
-use Rattle.writer.specs.Out.{Out, pushAll, strip}
+use Rattle.writer.specs.Out.{Out, pushAll, stripBy, strip}
 use Rattle.writer.proofs.OutLaws.{push-all-rises}
 use Rattle.html2text.specs.Collect.{Event, Entry, tagNumber, added}
 use Rattle.html2text.specs.Extract.{Run, going, tooManyLevels, tooManyRows, passesLevels, passesRows, lineOf, taken}
@@ -32,7 +32,7 @@ unfolding separated
 separated-longer off size o = by-cond (Longer o) (eqb (length (o .text)) 0) (λ e. omega arith) (λ e. push-all-rises (cond off (0x20 ∷ []) (replicate size 0x0a)) o)
 
 margin-longer : (bare off : Bool) (size : ℕ) (o : Out) → Longer o (marginOut bare off size o)
-unfolding marginOut strip
+unfolding marginOut stripBy
 margin-longer true off size o = by-cond (Longer o) (eqb size 0) (λ e. omega arith) (λ e. separated-longer off size (strip o))
 margin-longer false off size o = by-cond (Longer o) (eqb size 0) (λ e. omega arith) (λ e. separated-longer off size o)
 
@@ -44,7 +44,7 @@ between-longer off o =
     (λ e. push-all-rises (codes "\t\t") o)
 
 item-longer : (end bare : Bool) (depth : ℕ) (o : Out) → Longer o (itemOut end bare depth o)
-unfolding itemOut strip
+unfolding itemOut stripBy
 item-longer true true depth o = push-all-rises (codes "</li>\n") (strip o)
 item-longer true false depth o = push-all-rises (codes "</li>\n") o
 item-longer false bare depth o =

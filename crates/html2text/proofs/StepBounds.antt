@@ -58,7 +58,8 @@ costs-separated off size =
 costs-margin : (bare off : Bool) (size : ℕ) → Costs (marginOut bare off size) (size + 1)
 unfolding marginOut
 costs-margin bare off size =
-    costs-if (eqb size 0) (costs-none-of (size + 1)) (costs-more (omega arith) (costs-then (costs-if bare costs-strip costs-none) (costs-separated off size)))
+    costs-if (eqb size 0) (costs-none-of (size + 1))
+    (costs-more (omega arith) (costs-then (costs-if bare (costs-strip isSpace) costs-none) (costs-separated off size)))
 
 costs-between : (off : Bool) → Costs (between off) 2
 unfolding between codes
@@ -72,7 +73,7 @@ costs-spaces k = costs-write (replicate k 0x20) k (omega (arith, length-replicat
 costs-item : (end bare : Bool) (depth : ℕ) → Costs (itemOut end bare depth) (2 * depth + 6)
 unfolding itemOut codes
 costs-item end bare depth =
-    costs-if end (costs-more (omega arith) (costs-then (costs-if bare costs-strip costs-none) (costs-push-all (codes "</li>\n"))))
+    costs-if end (costs-more (omega arith) (costs-then (costs-if bare (costs-strip isSpace) costs-none) (costs-push-all (codes "</li>\n"))))
     (costs-more (omega arith) (costs-then (costs-spaces (depth * 2)) (costs-push-all (codes "<li>"))))
 
 -- the names that are told apart have at most ten letters

@@ -13,18 +13,18 @@ use borrow.Author.Tests.{eq-eqb}
 use Rattle.common.proofs.Choice.{by-cond, absurd-test}
 use Rattle.options.specs.declared.ExtractOptions.{ExtractOptions}
 use Rattle.sheet.specs.Column.{parentOf}
-use Rattle.tree.specs.Forest.{Forest, empty, node, preorder}
+use Rattle.tree.specs.Forest.{Forest, empty, node, hasTrees, preorder}
 use Rattle.tree.specs.Page.{Page}
 use Rattle.tree.specs.Rows.{childrenOf, firstChildOf, nextSiblingOf, pastOf}
 use Rattle.tree.proofs.Descendants.{descendants, length-rows}
 use Rattle.tree.proofs.PastLaws.{past-of-low, past-of-high}
 use Rattle.tree.proofs.Scans.{above-found}
+use Rattle.tree.proofs.Standing.{RowStands, Stands, root-stands}
 use Rattle.html2text.specs.Collect.{Event, collect, collectAll}
 use Rattle.html2text.specs.Serialize.{one}
 use Rattle.html2text.specs.Theorems.{HidesRows, PageRight, WalkOfTree}
-use Rattle.html2text.specs.Walk.{isComment, isSome, hasTrees, leftOut, leftOutAt, eventAt, events, visits, treeOf, Sofar, Cursor, onward, turn, loopFrom}
+use Rattle.html2text.specs.Walk.{isComment, isSome, leftOut, leftOutAt, eventAt, events, visits, treeOf, Sofar, Cursor, onward, turn, loopFrom}
 use Rattle.html2text.proofs.CollectLaws.{collect-all-append}
-use Rattle.html2text.proofs.Standing.{RowStands, Stands, root-stands}
 
 sofar-same : (s t : Sofar) → s .nodes ≡ t .nodes → s .passes ≡ t .passes → s ≡ t
 sofar-same s t e f = λ i. record { nodes = e i; passes = f i }

@@ -6,10 +6,10 @@ use Rattle.common.specs.Bytes.{Bytes, codes, isEmpty}
 use Rattle.options.specs.declared.ExtractOptions.{ExtractOptions}
 use Rattle.tags.specs.Words.{is, oneOf, words}
 use Rattle.text.specs.Text.{trim, struck}
-use Rattle.tree.specs.Forest.{Forest, empty, node}
+use Rattle.tree.specs.Forest.{Forest, empty, node, hasTrees}
 use Rattle.tree.specs.Node.{element, text, comment, Node}
 use Rattle.html2text.specs.Collect.{attr, isUnshownType, altText}
-use Rattle.html2text.specs.Walk.{hasTrees, leftOut}
+use Rattle.html2text.specs.Walk.{leftOut}
 
 -- the bytes of a piece, and the rows from its own up to the root
 pub record Piece : Type 0 where

@@ -7,7 +7,7 @@ use lib.Dec.{eqb}
 use lib.ListN.{length}
 use Rattle.options.specs.declared.ExtractOptions.{ExtractOptions}
 use Rattle.sheet.specs.Column.{parentOf}
-use Rattle.tree.specs.Forest.{Forest, empty, node}
+use Rattle.tree.specs.Forest.{Forest, empty, node, hasTrees}
 use Rattle.tree.specs.Node.{Kind, element, text, comment, Node}
 use Rattle.tree.specs.Page.{Page}
 use Rattle.tree.specs.Rows.{childrenOf, firstChildOf, nextSiblingOf}
@@ -22,10 +22,6 @@ isComment comment = true
 abbrev pub isSome : {A : Type 0} → Option A → Bool
 isSome none = false
 isSome (some a) = true
-
-abbrev pub hasTrees : Forest ℕ → Bool
-hasTrees empty = false
-hasTrees (node i children rest) = true
 
 -- `hidden`: the rows that are marked, or that main_content and `is_main_content` leave out
 module _ (nodeOf : ℕ → Node) (hidden : ℕ → Bool) where

@@ -19,7 +19,7 @@ use Rattle.tree.specs.TextContent.{textData, concatenated, textContent}
 use Rattle.tags.specs.Tags.{isBlock, tagNames, tagOf, nameOf}
 use Rattle.tags.specs.Words.{firstWord, otherWords, words, oneOf, numberFrom}
 use Rattle.writer.specs.Digits.{digitsIn, digits}
-use Rattle.writer.specs.Out.{greater, push, pushAll, strip}
+use Rattle.writer.specs.Out.{greater, push, pushAll, stripBy}
 use Rattle.regex.specs.Match.{fit, finds}
 use Rattle.regex.specs.Regex.{lower, isDash, isHexDigit, inClass, word, exact}
 use Rattle.patterns.specs.Patterns.{patterns}
@@ -53,7 +53,7 @@ unfolding
     isBlock tagNames tagOf nameOf
     firstWord otherWords words oneOf numberFrom
     digitsIn digits
-    greater push pushAll strip
+    greater push pushAll stripBy
     fit finds
     lower isDash isHexDigit inClass word exact
     patterns

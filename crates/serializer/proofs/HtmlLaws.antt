@@ -13,6 +13,7 @@ use Rattle.common.proofs.Equality.{same-true}
 use Rattle.common.proofs.Every.{every-at}
 use Rattle.tags.specs.Tags.{tagNames, nameOf, isList, isLi, isPre, isBr, isHeadingOrP}
 use Rattle.tags.specs.Words.{words, firstWord, otherWords}
+use Rattle.text.specs.Text.{isSpace}
 use Rattle.writer.specs.Out.{Out, pushAll, strip}
 use Rattle.writer.specs.Writing.{Ready, Does}
 use Rattle.writer.specs.declared.Writer.{Writer}
@@ -70,7 +71,7 @@ module _ (end bare : Bool) (depth : ℕ) where
   pub grows-item-out : Grows (itemOut end bare depth)
   unfolding itemOut
   grows-item-out =
-      grows-cond (λ o. end) (grows-then (grows-cond (λ o. bare) grows-strip grows-none) (grows-push-all (codes "</li>\n")))
+      grows-cond (λ o. end) (grows-then (grows-cond (λ o. bare) (grows-strip isSpace) grows-none) (grows-push-all (codes "</li>\n")))
       (grows-then (grows-push-all (replicate (depth * 2) 0x20)) (grows-push-all (codes "<li>")))
 
 module _ (bullets : Bool) (n : ExtractNode) where

@@ -10,6 +10,7 @@ use borrow.Author.Tests.{eq-eqb, ne-eqb}
 use Rattle.common.specs.Bytes.{Bytes}
 use Rattle.html2text.specs.Serialize.{separated, marginOut, margin, blockMargin}
 use Rattle.html2text.specs.declared.ExtractNode.{ExtractNode}
+use Rattle.text.specs.Text.{isSpace}
 use Rattle.writer.specs.Out.{Out, greater, pushAll, strip}
 use Rattle.writer.specs.Writing.{Held, Ready, Does, trimmed}
 use Rattle.writer.specs.declared.Writer.{Writer}
@@ -94,7 +95,8 @@ pub grows-margin : (bare off : Bool) (size : ℕ) → Grows (marginOut bare off 
 unfolding marginOut separated
 grows-margin bare off size =
     grows-cond (λ o. eqb size 0) grows-none
-    (grows-then (grows-cond (λ o. bare) grows-strip grows-none) (grows-cond (λ o. eqb (length (o .text)) 0) grows-none (grows-push-all (gap off size))))
+    (grows-then (grows-cond (λ o. bare) (grows-strip isSpace) grows-none)
+    (grows-cond (λ o. eqb (length (o .text)) 0) grows-none (grows-push-all (gap off size))))
 
 pub rises-margin : (bare off : Bool) → Rises (margin bare off)
 unfolding margin

@@ -2,6 +2,7 @@ pub mod AttributeLines
 pub mod Column
 pub mod Descendants
 pub mod Examples
+pub mod Forests
 pub mod Left
 pub mod NodeLaws
 pub mod Order
@@ -12,6 +13,7 @@ pub mod QuestionsLaws
 pub mod Scans
 pub mod SheetColumn
 pub mod SheetLaws
+pub mod Standing
 pub mod TextLaws
 pub mod TextLengths
 pub mod TreeLaws

@@ -1,5 +1,6 @@
 -- A list of trees, with the terms of the DOM standard, section 1.1 "Trees" (https://dom.spec.whatwg.org/#trees).
 use mathlib.Core.Path.{_≡_}
+use mathlib.Core.Bool.{Bool, true, false}
 use mathlib.Core.List.{List, [], _∷_, _++_}
 use mathlib.Core.Logic.{_⊎_}
 use mathlib.Core.Option.{Option, none, some}
@@ -11,6 +12,11 @@ pub data Forest (A : Type 0) : Type 0 where
   node : A → Forest A → Forest A → Forest A
 
 module _ {A : Type 0} where
+  -- there is a tree
+  abbrev pub hasTrees : Forest A → Bool
+  hasTrees empty = false
+  hasTrees (node a children rest) = true
+
   -- "tree order is preorder, depth-first traversal of a tree"
   unfoldable pub preorder : Forest A → List A
   preorder empty = []

@@ -1,6 +1,6 @@
 -- The forest of a list of rows with their depths, and the searches of a depth column (document 01, "The sheet").
 use mathlib.Core.Path.{_≡_}
-use mathlib.Core.Bool.{true, false}
+use mathlib.Core.Bool.{Bool, true, false, _&&_}
 use mathlib.Core.List.{List, [], _∷_, map}
 use mathlib.Core.Option.{Option, none, some}
 use Prim.Native.Nat.{ℕ, zero, suc, _≤_, _<_}
@@ -42,6 +42,10 @@ childrenOf depths i = forestFrom depths (suc i) (suc (getD depths i 0))
 -- the forest of the row numbers
 abbrev pub forestOf : List ℕ → Forest ℕ
 forestOf depths = build (numbered 0 depths) 0
+
+-- there is a row k, and it stands at depth d
+unfoldable pub standsAt : List ℕ → ℕ → ℕ → Bool
+standsAt depths k d = ltb k (length depths) && eqb (getD depths k 0) d
 
 -- n row numbers from i on
 unfoldable pub rowsFrom : ℕ → ℕ → List ℕ

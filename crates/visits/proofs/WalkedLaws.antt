@@ -14,17 +14,17 @@ use Rattle.sheet.specs.Accepted.{Accepted}
 use Rattle.sheet.specs.Layout.{depths}
 use Rattle.sheet.specs.declared.line.Layout.{Layout}
 use Rattle.sheet.proofs.LayoutLaws.{depths-from-length}
-use Rattle.tree.specs.Forest.{Forest, empty, node}
-use Rattle.tree.specs.Node.{comment, Node}
+use Rattle.tree.specs.Forest.{Forest, empty, node, hasTrees}
+use Rattle.tree.specs.Node.{Node}
 use Rattle.tree.specs.Page.{nodeAt, pageOf}
 use Rattle.tree.specs.Rows.{childrenOf, firstChildOf, nextSiblingOf}
+use Rattle.tree.proofs.Standing.{Stands, root-stands}
 use Rattle.html2text.specs.Bounds.{mostEvents, EachAdds}
 use Rattle.html2text.specs.Collect.{Event}
-use Rattle.html2text.specs.Walk.{isComment, hasTrees, leftOut, eventAt, events, visits, treeOf}
+use Rattle.html2text.specs.Walk.{isComment, leftOut, eventAt, events, visits, treeOf}
 use Rattle.common.proofs.TestLaws.{or-neither}
 use Rattle.html2text.proofs.PageBounds.{events-bounded}
 use Rattle.html2text.proofs.PageLaws.{page-right}
-use Rattle.html2text.proofs.Standing.{Stands, root-stands}
 use Rattle.walk.specs.Turns.{rowTurns, turns, eventsOf, Agree, flagged}
 use Rattle.walk.specs.declared.cursor.Turn.{Turn}
 use Rattle.walk.specs.declared.cursor.Turn.the-variants.{Begin, End, LeftOut}

@@ -9,10 +9,10 @@ use lib.ListN.{length, getD, set, drop}
 use lib.Seq.{getD-set-same, getD-set-other}
 use Rattle.common.proofs.Choice.{absurd-test}
 use Rattle.tree.specs.Rows.{forestFrom, pastFrom}
+use Rattle.tree.proofs.Forests.{forest-deeper, forest-here, forest-less, forest-done, forest-skip}
 use Rattle.tree.proofs.Order.{trichotomy}
 use Rattle.tree.proofs.PastLaws.{above-or-not, past-low}
 use Rattle.walk.specs.Turns.{Agree, flagged, treeAt}
-use Rattle.walk.proofs.Forests.{forest-deeper, forest-here, forest-less, forest-done, forest-skip}
 
 module _ (depths : List ℕ) (leftOut : ℕ → Bool) where
   -- all trees that begin at row k or later, deeper than the root, are decided

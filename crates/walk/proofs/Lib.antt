@@ -1,6 +1,5 @@
 pub mod Advancing
 pub mod DecidedLaws
-pub mod Forests
 pub mod NameLaws
 pub mod RowLaws
 pub mod TurnLaws

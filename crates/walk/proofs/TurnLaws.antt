@@ -6,13 +6,12 @@ use Prim.Native.Nat.{ℕ, zero, suc, _+_, _≤_, _<_}
 use native.Mathlib.Omega.{arith}
 use lib.ListN.{length, getD, set, drop}
 use lib.Seq.{getD-set-same, getD-set-other}
-use Rattle.tree.specs.Forest.{Forest, empty, node}
+use Rattle.tree.specs.Forest.{Forest, empty, node, hasTrees}
 use Rattle.tree.specs.Rows.{childrenOf, forestFrom, pastFrom}
-use Rattle.html2text.specs.Walk.{hasTrees}
+use Rattle.tree.proofs.Forests.{no-trees, forest-deeper, forest-here, forest-skip}
 use Rattle.walk.specs.Turns.{treeAt, rowTurns, turns, openRows, remaining}
 use Rattle.walk.specs.declared.cursor.Turn.{Turn}
 use Rattle.walk.specs.declared.cursor.Turn.the-variants.{Begin, End, LeftOut}
-use Rattle.walk.proofs.Forests.{no-trees, forest-deeper, forest-here, forest-skip}
 
 -- ---- the open rows
 

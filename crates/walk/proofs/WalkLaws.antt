@@ -6,7 +6,7 @@ use Prim.Native.Nat.{ℕ, suc, _+_, _-_, _*_, _≤_, _<_}
 use native.Mathlib.Omega.{arith}
 use lib.ListN.{length, getD, drop, length-append, length-drop}
 use Rattle.common.proofs.Choice.{by-test}
-use Rattle.tree.specs.Forest.{Forest, empty, node, preorder}
+use Rattle.tree.specs.Forest.{Forest, empty, node, hasTrees, preorder}
 use Rattle.tree.specs.Node.{Node}
 use Rattle.tree.specs.Rows.{WellFormed, build, numbered, childrenOf, pastOf}
 use Rattle.tree.proofs.Descendants.{descendants, length-rows}
@@ -14,7 +14,7 @@ use Rattle.tree.proofs.Order.{trichotomy, build-deeper, build-here, build-less}
 use Rattle.tree.proofs.PastLaws.{past-of-low, past-of-high}
 use Rattle.html2text.specs.Collect.{Event}
 use Rattle.html2text.specs.Serialize.{one}
-use Rattle.html2text.specs.Walk.{hasTrees, leftOut, eventAt, events, visits}
+use Rattle.html2text.specs.Walk.{leftOut, eventAt, events, visits}
 use Rattle.walk.specs.Turns.{treeAt, turns, eventsOf, TurnsOfWalk, Agree}
 use Rattle.walk.specs.declared.cursor.Turn.{Turn}
 use Rattle.walk.specs.declared.cursor.Turn.the-variants.{Begin, End, LeftOut}

@@ -1,15 +1,14 @@
 -- The passes of the walk's loop over the tree, and what is left of them where the walk stands.
 use mathlib.Core.Path.{_≡_}
-use mathlib.Core.Bool.{Bool, true, false, _&&_, cond}
+use mathlib.Core.Bool.{Bool, true, false, cond}
 use mathlib.Core.List.{List, [], _∷_, _++_}
 use Prim.Native.Nat.{ℕ, zero, suc, _+_, _≤_, _<_}
-use lib.Dec.{eqb, ltb}
 use lib.ListN.{length, getD}
-use Rattle.tree.specs.Forest.{Forest, empty, node}
+use Rattle.tree.specs.Forest.{Forest, empty, node, hasTrees}
 use Rattle.tree.specs.Node.{Node}
 use Rattle.tree.specs.Rows.{WellFormed, childrenOf, forestFrom}
 use Rattle.html2text.specs.Collect.{Event}
-use Rattle.html2text.specs.Walk.{hasTrees, leftOut, eventAt, events, visits}
+use Rattle.html2text.specs.Walk.{leftOut, eventAt, events, visits}
 use Rattle.walk.specs.declared.cursor.Turn.{Turn}
 use Rattle.walk.specs.declared.cursor.Turn.the-variants.{Begin, End, LeftOut}
 use Rattle.walk.specs.declared.cursor.Walk.{Walk}
@@ -71,10 +70,6 @@ module _ (depths : List ℕ) (left : ℕ → Bool) where
   abbrev pub turnsLeft : Walk → List ℕ → List Turn
   turnsLeft (Root i) stack = turns left 0 (treeAt depths i)
   turnsLeft (Below base k n) stack = remaining base k (openRows stack n)
-
--- there is a row k, and it stands at depth d
-unfoldable pub standsAt : List ℕ → ℕ → ℕ → Bool
-standsAt depths k d = ltb k (length depths) && eqb (getD depths k 0) d
 
 -- the stack is longer than any depth
 pub record ColumnRight (depths : List ℕ) (room : ℕ) : Type 0 where

@@ -6,9 +6,8 @@ use native.Mathlib.Omega.{arith}
 use lib.ListN.{length, length-append}
 use Rattle.common.specs.Bytes.{Bytes}
 use Rattle.common.proofs.Choice.{by-cond}
-use Rattle.text.specs.Text.{isSpace}
 use Rattle.text.proofs.TrimLaws.{rstrip-length}
-use Rattle.writer.specs.Out.{Out, greater, pushAll, strip}
+use Rattle.writer.specs.Out.{Out, greater, pushAll, stripBy}
 use Rattle.writer.proofs.OutLaws.{greater-max, push-all-text, push-all-peak}
 
 -- by at most c; and the length stays at most the greatest
@@ -26,9 +25,9 @@ costs-push-all s =
       most = λ o h. omega (arith, push-all-peak s o h, greater-max (o .peak) (length (o .text) + length s));
     }
 
-pub costs-strip : Costs strip 0
-unfolding strip
-costs-strip = record { below = λ o h. omega (arith, rstrip-length isSpace (o .text)); most = λ o h. omega arith }
+pub costs-strip : (blank : ℕ → Bool) → Costs (stripBy blank) 0
+unfolding stripBy
+costs-strip blank = record { below = λ o h. omega (arith, rstrip-length blank (o .text)); most = λ o h. omega arith }
 
 pub costs-then : {F G : Out → Out} {c d : ℕ} → Costs F c → Costs G d → Costs (λ o. G (F o)) (c + d)
 costs-then {F} a b = record { below = λ o h. b .below (F o) (a .below o h); most = λ o h. omega (arith, a .most o h, b .most (F o) (a .below o h)) }

@@ -1,11 +1,11 @@
 -- A text that is written byte by byte, with the greatest length that it ever had (document 01, 31 and 32).
-use mathlib.Core.Bool.{cond}
+use mathlib.Core.Bool.{Bool, cond}
 use mathlib.Core.List.{[], _∷_, _++_}
 use Prim.Native.Nat.{ℕ, _+_}
 use lib.Dec.{ltb}
 use lib.ListN.{length}
 use Rattle.common.specs.Bytes.{Bytes}
-use Rattle.text.specs.Text.{rstrip}
+use Rattle.text.specs.Text.{isSpace, rstripBy}
 
 -- `a.max(b)`
 unfoldable pub greater : ℕ → ℕ → ℕ
@@ -27,6 +27,9 @@ unfoldable pub pushAll : Bytes → Out → Out
 pushAll [] o = o
 pushAll (c ∷ s) o = pushAll s (push c o)
 
--- `rstrip(out)`
-unfoldable pub strip : Out → Out
-strip o = record { text = rstrip (o .text); peak = o .peak }
+-- `rstrip(out)`, over any set of blanks
+unfoldable pub stripBy : (ℕ → Bool) → Out → Out
+stripBy blank o = record { text = rstripBy blank (o .text); peak = o .peak }
+
+abbrev pub strip : Out → Out
+strip = stripBy isSpace

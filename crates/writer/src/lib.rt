@@ -30,7 +30,7 @@ pub fn greater(a: usize, b: usize) -> usize
 }
 
 // The numbers after n bytes more, of which k are left without the blanks at their end.
-fn grown(w: Writer, n: usize, k: usize) -> Writer
+pub fn grown(w: Writer, n: usize, k: usize) -> Writer
     requires { ⌜ (w .len + n < 9223372036854775808) × (k ≤ n) ⌝ }
     ensures { λ r. ⌜ r ≡ grown w n k ⌝ }
 {
@@ -50,7 +50,7 @@ fn grown(w: Writer, n: usize, k: usize) -> Writer
     }
 }
 
-fn store_byte(out: &mut [u8], at: usize, b: u8, write: bool)
+pub fn store_byte(out: &mut [u8], at: usize, b: u8, write: bool)
     requires { ⌜ (write ≡ true → at < length (now out)) ⌝ }
     ensures { λ r. ⌜ now (out .exit) ≡ stored write (now (out .entry)) at (b ∷ []) ⌝ }
 {
@@ -60,7 +60,7 @@ fn store_byte(out: &mut [u8], at: usize, b: u8, write: bool)
     }
 }
 
-fn store(out: &mut [u8], at: usize, word: &[u8], write: bool)
+pub fn store(out: &mut [u8], at: usize, word: &[u8], write: bool)
     requires { ⌜ (write ≡ true → at + length (now word) ≤ length (now out)) ⌝ }
     ensures { λ r. ⌜ now (out .exit) ≡ stored write (now (out .entry)) at (now (word .entry)) ⌝ }
 {

@@ -3,6 +3,7 @@ use mathlib.Core.Path.{sym, ap, _∙_}
 use Prim.Native.Nat.{ℕ}
 use native.Mathlib.Omega.{arith}
 use lib.ListN.{length, replicate, length-replicate}
+use Rattle.text.specs.Text.{isSpace}
 use Rattle.writer.proofs.HeldLaws.{run-room, run-small, ran, rstrip-copies-blank, rstrip-copies-other}
 use borrow.Author.Needs.{needs}
 use Rattle.writer.proofs.pad.Statement.{statement}
@@ -28,7 +29,8 @@ returns : tie.Need-returns
 returns c =
     let a = c .before .before .before .before .before .before .before .before .args in
     ran (replicate (a .times) (a .b)) (c .before .before .before .before .before .before .before .before .pre) (sym (length-replicate (a .times) (a .b)))
-    (sym (ap length (rstrip-copies-blank (a .b) (a .times) (sym (c .before .before .is-space .ensures) ∙ c .before .if1 .taken)))) (c .grown .ensures) (c .before .before .before .before .before .store-copies .ensures)
+    (sym (ap length (rstrip-copies-blank isSpace (a .b) (a .times) (sym (c .before .before .is-space .ensures) ∙ c .before .if1 .taken))))
+    (c .grown .ensures) (c .before .before .before .before .before .store-copies .ensures)
 
 grown-requires-2 : tie.Need-grown-requires-2
 grown-requires-2 c κs =
@@ -42,7 +44,10 @@ returns-2 : tie.Need-returns-2
 returns-2 c =
     let a = c .before .before .before .before .before .before .before .before .args in
     ran (replicate (a .times) (a .b)) (c .before .before .before .before .before .before .before .before .pre) (sym (length-replicate (a .times) (a .b)))
-    (sym (ap length (rstrip-copies-other (a .b) (a .times) (sym (c .before .before .is-space .ensures) ∙ c .before .if1 .left)) ∙ length-replicate (a .times) (a .b))) (c .grown2 .ensures) (c .before .before .before .before .before .store-copies .ensures)
+    (sym
+    (ap length (rstrip-copies-other isSpace (a .b) (a .times) (sym (c .before .before .is-space .ensures) ∙ c .before .if1 .left))
+    ∙ length-replicate (a .times) (a .b)))
+    (c .grown2 .ensures) (c .before .before .before .before .before .store-copies .ensures)
 
 pub pad-spec : {M : Type 1} → statement M
 pad-spec =

@@ -3,6 +3,7 @@ use mathlib.Core.Path.{refl, sym, ap, _∙_}
 use mathlib.Core.List.{[], _∷_}
 use native.Mathlib.Omega.{arith}
 use lib.ListN.{length}
+use Rattle.text.specs.Text.{isSpace}
 use Rattle.writer.proofs.HeldLaws.{run-room, run-small, ran, rstrip-copies-blank, rstrip-copies-other}
 use borrow.Author.Needs.{needs}
 use Rattle.writer.proofs.push.Statement.{statement}
@@ -21,7 +22,7 @@ same-length : tie.Need-same-length
 same-length c = search needs
 
 returns : tie.Need-returns
-returns c = ran (c .before .before .before .before .before .before .before .before .args .b ∷ []) (c .before .before .before .before .before .before .before .before .pre) refl (sym (ap length (rstrip-copies-blank _ 1 (sym (c .before .before .is-space .ensures) ∙ c .before .if1 .taken)))) (c .grown .ensures) (c .before .before .before .before .before .store-byte .ensures)
+returns c = ran (c .before .before .before .before .before .before .before .before .args .b ∷ []) (c .before .before .before .before .before .before .before .before .pre) refl (sym (ap length (rstrip-copies-blank isSpace _ 1 (sym (c .before .before .is-space .ensures) ∙ c .before .if1 .taken)))) (c .grown .ensures) (c .before .before .before .before .before .store-byte .ensures)
 
 grown-requires-2 : tie.Need-grown-requires-2
 grown-requires-2 c κs = omega (arith, run-small (c .before .before .before .before .before .before .before .args .b ∷ []) (c .before .before .before .before .before .before .before .pre))
@@ -30,7 +31,7 @@ same-length-2 : tie.Need-same-length-2
 same-length-2 c = search needs
 
 returns-2 : tie.Need-returns-2
-returns-2 c = ran (c .before .before .before .before .before .before .before .before .args .b ∷ []) (c .before .before .before .before .before .before .before .before .pre) refl (sym (ap length (rstrip-copies-other _ 1 (sym (c .before .before .is-space .ensures) ∙ c .before .if1 .left)))) (c .grown2 .ensures) (c .before .before .before .before .before .store-byte .ensures)
+returns-2 c = ran (c .before .before .before .before .before .before .before .before .args .b ∷ []) (c .before .before .before .before .before .before .before .before .pre) refl (sym (ap length (rstrip-copies-other isSpace _ 1 (sym (c .before .before .is-space .ensures) ∙ c .before .if1 .left)))) (c .grown2 .ensures) (c .before .before .before .before .before .store-byte .ensures)
 
 pub push-spec : {M : Type 1} → statement M
 push-spec =

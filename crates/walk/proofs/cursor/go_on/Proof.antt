@@ -1,7 +1,7 @@
 -- `cursor::go_on` meets its contract.
 use mathlib.Core.Path.{sym, _∙_}
 use denote.Ref.{now}
-use Rattle.walk.proofs.Forests.{stands-there}
+use Rattle.tree.proofs.Forests.{stands-there}
 use Rattle.walk.proofs.Advancing.{all-done, reach-below, end-below}
 use borrow.Author.Needs.{needs}
 use Rattle.walk.proofs.cursor.go_on.Statement.{statement}

@@ -1,7 +1,7 @@
 -- `cursor::stands_at` meets its contract.
 use mathlib.Core.Path.{sym}
 use native.Mathlib.Omega.{arith}
-use Rattle.walk.proofs.Forests.{stands, stands-not}
+use Rattle.tree.proofs.Forests.{stands, stands-not}
 use borrow.Author.Needs.{needs}
 use Rattle.walk.proofs.cursor.stands_at.Statement.{statement}
 use Rattle.walk.proofs.cursor.stands_at.Tie as tie

@@ -9,12 +9,10 @@ use lib.ListN.{length, getD, drop, drop-of-length-le}
 use lib.Seq.{drop-cons}
 use borrow.Author.Tests.{lt-ltb, le-ltb, ltb-true, eqb-true}
 use Rattle.common.proofs.Choice.{by-test, and-parts}
-use Rattle.tree.specs.Forest.{Forest, empty, node}
-use Rattle.tree.specs.Rows.{WellFormed, build, numbered, childrenOf, forestFrom, pastFrom}
+use Rattle.tree.specs.Forest.{Forest, empty, node, hasTrees}
+use Rattle.tree.specs.Rows.{WellFormed, build, numbered, childrenOf, forestFrom, standsAt, pastFrom}
 use Rattle.tree.proofs.Order.{build-deeper, build-here, build-less}
 use Rattle.tree.proofs.PastLaws.{above-or-not, skip}
-use Rattle.html2text.specs.Walk.{hasTrees}
-use Rattle.walk.specs.Turns.{standsAt}
 
 pub no-trees : (f : Forest ℕ) → hasTrees f ≡ false → f ≡ empty
 no-trees empty e = refl
@@ -75,7 +73,8 @@ module _ (depths : List ℕ) where
       (λ h. forest-done k d h)
 
   -- a row has children exactly where the row behind it is one deeper
-  pub children-are : WellFormed depths → (k : ℕ) → k < length depths → hasTrees (childrenOf depths k) ≡ standsAt depths (suc k) (suc (getD depths k 0))
+  pub children-are : WellFormed depths → (k : ℕ) → k < length depths
+      → hasTrees (childrenOf depths k) ≡ standsAt depths (suc k) (suc (getD depths k 0))
   children-are w k h =
       by-test (standsAt depths (suc k) (suc (getD depths k 0)))
       (λ e. let p = stands-there (suc k) _ e in ap hasTrees (forest-here (suc k) (suc (getD depths k 0)) (p .0) (p .1)) ∙ sym e)
