@@ -19,9 +19,9 @@
 extern "C" {
 #endif
 
-#define LEVZHADA_VERSION "0.5.0"
+#define LEVZHADA_VERSION "0.6.0"
 #define LEVZHADA_VERSION_MAJOR 0
-#define LEVZHADA_VERSION_MINOR 5
+#define LEVZHADA_VERSION_MINOR 6
 #define LEVZHADA_VERSION_PATCH 0
 
 /* The numbers, and what the second number is with each. The header is line 0, row 0 line 1. */
@@ -52,9 +52,12 @@ extern "C" {
 #define LEVZHADA_NO_ENTITY 51              /* the offset of the ampersand that starts none of the four names */
 #define LEVZHADA_UNESCAPE_OUT_TOO_SHORT 52 /* the length that out needs */
 
+/* Out is too short for the visible text of a row. */
+#define LEVZHADA_VISIBLE_TEXT_OUT_TOO_SHORT 53 /* the length that out needs: the greatest that the text has on the way */
+
 /* The stack that a call takes, in bytes below its caller's frame: at most this. Measured and rounded up, not proved: tests/c/stack.c found
- * 379,000 for levzhada_extract from 257 rows on and 45,368 up to 256 rows, 21,912 for levzhada_matches, 4,600 for levzhada_measure and
- * 1,352 or less for the others. */
+ * 379,032 for levzhada_extract from 257 rows on and 45,400 up to 256 rows, 21,912 for levzhada_matches, 4,600 for levzhada_measure and
+ * 1,848 or less for the others. */
 #define LEVZHADA_STACK 393216       /* any call, any sheet */
 #define LEVZHADA_STACK_SMALL 65536  /* levzhada_extract, a sheet of up to 256 rows */
 #define LEVZHADA_STACK_OTHERS 32768 /* every call but levzhada_extract */
@@ -136,6 +139,22 @@ levzhada_answer levzhada_extract(const uint8_t *sheet, size_t sheet_length, cons
  * none. Nothing but the skip fields of the rows that are counted changes, and the sheet is accepted as before.
  * Refused, in this order: 33, the option line is wrong; 11 to 17, the sheet. After a refusal the sheet is unchanged. */
 levzhada_answer levzhada_mark(uint8_t *sheet, size_t sheet_length, const uint8_t *options, size_t options_length, size_t noscript);
+
+/* The visible text of a row, as node_format_visible_text (serialize.rs) gives it of the same tree. It is another text than that of
+ * levzhada_extract: marks, options and the sheet's root have no say in it, and any row may be asked. A text or comment row has an empty
+ * text. What is below the row is gone over in order:
+ * - a text is added with each run of TAB, LF, FF, CR and space as one space (U+000B stays) and, where such a blank or nothing stands before
+ *   it, without the White_Space of Unicode at its start, U+000B and U+00A0 too;
+ * - a block takes away such blanks at the end and adds LF, a p LF LF: at its beginning and, if it has no next sibling, at its end. Blocks
+ *   are address article aside blockquote canvas dd div dl dt fieldset figcaption figure footer form h1 h2 h3 h4 h5 h6 header hr li main nav
+ *   ol p pre section table tfoot ul video;
+ * - of a pre the text content is added as it stands, and it is a block at its end alone; a br adds LF, and what is below it is left out;
+ *   script, style and noscript are left out, and comments, though these are next siblings too.
+ * The row itself is no block, no pre and no br. Nothing is taken away at the end of the text.
+ * Refused, in this order: 11 to 17, the sheet; 35 with the row where the sheet has no such row; 53 with the need, out too short. The need
+ * may be more than length, since blanks are written and taken away again.
+ * After a text out holds length bytes of it and zeros behind them, after a refusal it is unchanged. */
+levzhada_answer levzhada_visible_text(const uint8_t *sheet, size_t sheet_length, size_t row, uint8_t *out, size_t out_length);
 
 /* Each run of blanks as one space: out holds length bytes of text and zeros behind them. 32 with the need, and out unchanged,
  * where out is too short. */

@@ -1,7 +1,8 @@
 #!/usr/bin/env python3
 """Wrong readings of the Rust, each an edit of oracle/reference.py: does the sample tests/vectors/replay.in tell it from the right one? And
-of change request 5, each an edit of oracle/unescape.py: does tests/vectors/unescape.in?
-Use: wrong_readings.py [NAME ..]: all, or those of these names; `replay` and `unescape` are all of a sample.
+of change request 5, each an edit of oracle/unescape.py: does tests/vectors/unescape.in? And of change request 6, each an edit of
+oracle/visible_text.py: does tests/vectors/visible_text.in?
+Use: wrong_readings.py [NAME ..]: all, or those of these names; `replay`, `unescape` and `visible_text` are all of a sample.
 Ends with 1 if one of them is not told apart. `SAME` has edits that no sheet can tell apart."""
 import os
 import subprocess
@@ -245,7 +246,226 @@ UNESCAPE += [
 for bare in "<", ">", '\\"':
     UNESCAPE.append(("a bare %s is refused" % bare[-1], FIRST, FIRST + '    at = text.find(b"%s") if at is None and b"%s" in text else at\n' % (bare, bare)))
 
-SAMPLES = [("replay", "reference.py", "--program", WRONG, SAME), ("unescape", "unescape.py", "answers", UNESCAPE, [])]
+# change request 6: the sets
+BLOCK_SET, SILENT_SET = "    main nav ol p pre section table tfoot ul video\"\"\".split()", 'SILENT = b"script style noscript".split()'
+IS_BLOCK, BLANK_SET, RUNS = "    if name in BLOCKS:\n", 'BLANKS = b"\\t\\n\\x0c\\r "', 'RUN = re.compile(rb"[\\t\\n\\x0c\\r ]+")'
+WHITE_SET = "[\\\\u0009-\\\\u000d\\\\u0020\\\\u0085\\\\u00a0\\\\u1680\\\\u2000-\\\\u200a\\\\u2028\\\\u2029\\\\u202f\\\\u205f\\\\u3000]"
+COLLAPSED = '    value = RUN.sub(b" ", value)\n'
+TRIM = '    return WHITE.sub("", value.decode(), count=1).encode()\n'
+TRIMMED = "        value = trimmed(value)\n"
+TRIMS, ENDS_BLANK = "    if shown.ends_blank():\n", "return not self.text or self.text[-1] in BLANKS"
+LAST_BLANK = "while self.text[-1:] and self.text[-1] in BLANKS:"
+# the steps
+STRIP, LINES = "        shown.strip()\n", 'shown.add(b"\\n\\n" if name == b"p" else b"\\n")'
+OPENS, BELOW = "        add_block(shown, page.name[i])\n", "        add_rows(shown, page, page.children[i])\n"
+END = "    if rows:\n        add_block(shown, page.name[rows[-1]])\n"
+BREAK, WHOLE = '        shown.add(b"\\n")\n', "shown.add(page.content(i))"
+LEFT_OUT = "if page.kind[i] != ELEMENT or page.name[i] in SILENT:"
+SHOWN = "    if page.kind[i] == TEXT:\n        add_text"
+EACH = "    for i in rows:\n        add_row(shown, page, i)\n"
+ASKED = "    add_rows(shown, page, page.children[row])\n"
+CONTENT = "        if self.kind[i] == TEXT:\n"
+# the answer
+NEED, MOST = "self.need = max(self.need, len(self.text))", "    return bytes(shown.text), shown.need"
+NO_ROW, NOT_THERE = "    if row >= len(page.kind):\n        return [35, row, 0, 0], out\n", "    if row >= len(page.kind):"
+REFUSED = "    if refused:\n        return refused, out\n"
+TOO_SHORT, HOLDS = "        return [53, need, 0, 0], out\n", "    if len(out) < need:\n"
+RIGHT, ZEROS = "return [0, 0, 0, len(text)]", "text + bytes(len(out) - len(text))"
+
+
+def more_blocks(names):
+    return BLOCK_SET, BLOCK_SET + ' + b"%s".split()' % names
+
+
+VISIBLE_TEXT = [
+    # blocks
+    ("center is a block", *more_blocks("center")),
+    ("details is a block", *more_blocks("details")),
+    ("hgroup is a block", *more_blocks("hgroup")),
+    ("tr is a block", *more_blocks("tr")),
+    ("td is a block", *more_blocks("td")),
+    ("th is a block", *more_blocks("th")),
+    ("thead and tbody are blocks", *more_blocks("thead tbody")),
+    ("caption is a block", *more_blocks("caption")),
+    ("br is a block", *more_blocks("br")),
+    ("audio is a block", *more_blocks("audio")),
+    ("textarea is a block", *more_blocks("textarea")),
+    ("listing is a block", *more_blocks("listing")),
+    ("body is a block", *more_blocks("body")),
+    ("summary is a block", *more_blocks("summary")),
+    ("any case of a block's name", IS_BLOCK, "    if name.lower() in BLOCKS:\n"),
+    ("a block's name begins so", IS_BLOCK, "    if any(name.startswith(b) for b in BLOCKS):\n"),
+    ("an unknown name is a block", IS_BLOCK, "    if name in BLOCKS or name == b\"\":\n"),
+    # what is left out
+    ("noscript is shown", SILENT_SET, 'SILENT = b"script style".split()'),
+    ("style is shown", SILENT_SET, 'SILENT = b"script noscript".split()'),
+    ("script is shown", SILENT_SET, 'SILENT = b"style noscript".split()'),
+    ("template is left out", SILENT_SET, 'SILENT = b"script style noscript template".split()'),
+    ("iframe is left out", SILENT_SET, 'SILENT = b"script style noscript iframe".split()'),
+    ("textarea is left out", SILENT_SET, 'SILENT = b"script style noscript textarea".split()'),
+    ("title is left out", SILENT_SET, 'SILENT = b"script style noscript title".split()'),
+    ("SCRIPT is left out", LEFT_OUT, "if page.kind[i] != ELEMENT or page.name[i].lower() in SILENT:"),
+    ("a marked row is left out", LEFT_OUT, "if page.marked[i] or page.kind[i] != ELEMENT or page.name[i] in SILENT:"),
+    ("a marked row and its texts are left out", SHOWN, "    if page.marked[i]:\n        return\n" + SHOWN),
+    ("comments are shown", SHOWN, SHOWN.replace("== TEXT", "!= ELEMENT")),
+    ("comments in a pre are shown", CONTENT, "        if self.kind[i] != ELEMENT:\n"),
+    ("a script in a pre is not shown", CONTENT, "        if self.name[i] in SILENT:\n            return b\"\"\n" + CONTENT),
+    ("a br in a pre is LF", CONTENT, "        if self.name[i] == b\"br\":\n            return b\"\\n\"\n" + CONTENT),
+    # blanks
+    ("U+000B is a blank", BLANK_SET + "\n" + RUNS, 'BLANKS = b"\\t\\n\\x0b\\x0c\\r "\nRUN = re.compile(rb"[\\t\\n\\x0b\\x0c\\r ]+")'),
+    ("U+000B collapses", RUNS, RUNS.replace("\\x0c", "\\x0b\\x0c")),
+    ("U+000B is a last blank", ENDS_BLANK, 'return not self.text or self.text[-1] in BLANKS + b"\\v"'),
+    ("U+000B is stripped", LAST_BLANK, LAST_BLANK.replace("in BLANKS", 'in BLANKS + b"\\v"')),
+    ("FF is no blank", BLANK_SET + "\n" + RUNS, 'BLANKS = b"\\t\\n\\r "\nRUN = re.compile(rb"[\\t\\n\\r ]+")'),
+    ("FF does not collapse", RUNS, RUNS.replace("\\x0c", "")),
+    ("CR does not collapse", RUNS, RUNS.replace("\\r", "")),
+    ("TAB does not collapse", RUNS, RUNS.replace("\\t", "")),
+    ("LF does not collapse", RUNS, RUNS.replace("\\n", "")),
+    ("NBSP collapses", COLLAPSED, '    value = RUN.sub(b" ", value.replace(b"\\xc2\\xa0", b" "))\n'),
+    ("a run keeps its first blank", COLLAPSED, "    value = RUN.sub(lambda run: run.group()[:1], value)\n"),
+    ("a run keeps an LF", COLLAPSED, '    value = RUN.sub(lambda run: b"\\n" if b"\\n" in run.group() else b" ", value)\n'),
+    ("texts do not collapse", COLLAPSED, ""),
+    ("a space alone collapses", RUNS, 'RUN = re.compile(rb" +")'),
+    ("the end of a text is trimmed", COLLAPSED, COLLAPSED + "    value = value.rstrip(BLANKS)\n"),
+    ("a last NBSP is a blank", ENDS_BLANK, 'return not self.text or self.text[-1] in BLANKS or self.text[-2:] == b"\\xc2\\xa0"'),
+    ("Unicode's blanks are stripped", LAST_BLANK,
+     'self.text[:] = WHITE.sub("", self.text.decode()[::-1], count=1)[::-1].encode()\n        while False:'),
+    # the trim
+    ("the trim is ASCII's", TRIM, "    return value.lstrip(BLANKS)\n"),
+    ("the trim is ASCII's and U+000B", TRIM, '    return value.lstrip(BLANKS + b"\\v")\n'),
+    ("the trim is Python's", TRIM, "    return value.decode().lstrip().encode()\n"),
+    ("one character is trimmed", TRIM,
+     '    return re.sub(WHITE.pattern[:-1], "", value.decode()[:1]).encode() + value.decode()[1:].encode()\n'),
+    ("the trim takes a BOM", TRIM, '    return WHITE.sub("", value.decode().lstrip("\\ufeff"), count=1).encode()\n'),
+    ("the trim takes a zero width space", TRIM, '    return WHITE.sub("", value.decode().lstrip("\\u200b"), count=1).encode()\n'),
+    ("the trim leaves U+000B", TRIM, '    return value if value[:1] == b"\\v" else WHITE.sub("", value.decode(), count=1).encode()\n'),
+    ("the trim is of both ends", TRIM,
+     '    value = WHITE.sub("", value.decode(), count=1)\n    return WHITE.sub("", value[::-1], count=1)[::-1].encode()\n'),
+    ("every text is trimmed", TRIMS, "    if True:\n"),
+    ("no text is trimmed", TRIMS, "    if False:\n"),
+    ("the first text is not trimmed", ENDS_BLANK, "return bool(self.text) and self.text[-1] in BLANKS"),
+    ("a text behind LF is not trimmed", ENDS_BLANK, 'return not self.text or self.text[-1] in BLANKS and self.text[-1] != 10'),
+    ("a text is trimmed before it collapses, of blanks", COLLAPSED + TRIMS,
+     "    if shown.ends_blank():\n        value = value.lstrip(BLANKS)\n" + COLLAPSED + "    if False:\n"),
+    # the end step
+    ("the end step of every row", EACH + END,
+     "    for i in rows:\n        add_row(shown, page, i)\n        add_block(shown, page.name[i])\n"),
+    ("no end step", END, ""),
+    ("the end step of the first row", END, "    if rows:\n        add_block(shown, page.name[rows[0]])\n"),
+    ("the end step of all rows but the last", END, "    for i in rows[:-1]:\n        add_block(shown, page.name[i])\n"),
+    ("the end step of a row with rows below it", END,
+     "    if rows and page.children[rows[-1]]:\n        add_block(shown, page.name[rows[-1]])\n"),
+    ("comments are no next siblings", END, "    rows = [i for i in rows if page.kind[i] != COMMENT]\n" + END),
+    ("comments and texts are no next siblings", END, "    rows = [i for i in rows if page.kind[i] == ELEMENT]\n" + END),
+    ("blank texts are no next siblings", END, "    rows = [i for i in rows if page.kind[i] != TEXT or page.value[i].strip()]\n" + END),
+    ("empty texts are no next siblings", END, "    rows = [i for i in rows if page.kind[i] != TEXT or page.value[i]]\n" + END),
+    ("scripts are no next siblings", END, "    rows = [i for i in rows if page.name[i] not in SILENT]\n" + END),
+    ("marked rows are no next siblings", END, "    rows = [i for i in rows if not page.marked[i]]\n" + END),
+    ("no end step of a p", END, "    if rows and page.name[rows[-1]] != b\"p\":\n        add_block(shown, page.name[rows[-1]])\n"),
+    ("no end step of a pre", END, "    if rows and page.name[rows[-1]] != b\"pre\":\n        add_block(shown, page.name[rows[-1]])\n"),
+    ("no end step of an hr", END, "    if rows and page.name[rows[-1]] != b\"hr\":\n        add_block(shown, page.name[rows[-1]])\n"),
+    # a block
+    ("a p has one LF", LINES, 'shown.add(b"\\n")'),
+    ("every block has two LFs", LINES, 'shown.add(b"\\n\\n")'),
+    ("headings have two LFs", LINES, 'shown.add(b"\\n\\n" if name == b"p" or name[:1] == b"h" and name[1:].isdigit() else b"\\n")'),
+    ("a p has two LFs at its begin alone", END,
+     END.replace("if rows:", 'if rows and page.name[rows[-1]] == b"p":\n        shown.strip()\n        shown.add(b"\\n")\n    elif rows:')),
+    ("a block strips nothing", STRIP, ""),
+    ("a block strips one blank", LAST_BLANK, "if self.text[-1:] and self.text[-1] in BLANKS:"),
+    ("a block strips spaces alone", LAST_BLANK, "while self.text[-1:] == b\" \":"),
+    ("a block strips LFs alone", LAST_BLANK, "while self.text[-1:] == b\"\\n\":"),
+    ("no LF at the start", LINES, 'shown.add(b"" if not shown.text else b"\\n\\n" if name == b"p" else b"\\n")'),
+    ("no begin step of a block", OPENS, ""),
+    ("a block without rows has no begin step", OPENS, "        if page.children[i]:\n            add_block(shown, page.name[i])\n"),
+    ("a space for LF", LINES, 'shown.add(b"\\n\\n" if name == b"p" else b" ")'),
+    ("CR LF", LINES, 'shown.add(b"\\n\\n" if name == b"p" else b"\\r\\n")'),
+    # pre and br
+    ("a pre collapses", WHOLE, 'shown.add(RUN.sub(b" ", page.content(i)))'),
+    ("a pre is trimmed", WHOLE, "shown.add(page.content(i).lstrip(BLANKS) if shown.ends_blank() else page.content(i))"),
+    ("a pre's first LF goes", WHOLE, 'shown.add(re.sub(rb"^\\n", b"", page.content(i)))'),
+    ("a pre is a block at its begin", WHOLE, "add_block(shown, b\"pre\")\n        shown.add(page.content(i))"),
+    ("a pre is none of it", 'elif page.name[i] == b"pre":', 'elif False:'),
+    ("a pre's texts alone, not those below", WHOLE, 'shown.add(b"".join(page.value[j] for j in page.children[i] if page.kind[j] == TEXT))'),
+    ("a pre's rows are gone over too", WHOLE, "shown.add(page.content(i))\n        add_rows(shown, page, page.children[i])"),
+    ("PRE is a pre", 'elif page.name[i] == b"pre":', 'elif page.name[i].lower() == b"pre":'),
+    ("a textarea is copied whole", 'elif page.name[i] == b"pre":', 'elif page.name[i] in (b"pre", b"textarea"):'),
+    ("a listing is copied whole", 'elif page.name[i] == b"pre":', 'elif page.name[i] in (b"pre", b"listing"):'),
+    ("the asked pre is copied whole", ASKED,
+     "    if page.name[row] == b\"pre\":\n        shown.add(page.content(row))\n    else:\n    " + ASKED),
+    ("rows below a br are shown", BREAK, BREAK + "        add_rows(shown, page, page.children[i])\n"),
+    ("a br strips", BREAK, STRIP + BREAK),
+    ("a br is a space", BREAK, '        shown.add(b" ")\n'),
+    ("a br behind LF is none", BREAK, '        shown.add(b"" if shown.text[-1:] == b"\\n" else b"\\n")\n'),
+    ("BR is a br", 'if page.name[i] == b"br":', 'if page.name[i].lower() == b"br":'),
+    ("an hr is a br", 'if page.name[i] == b"br":', 'if page.name[i] in (b"br", b"hr"):'),
+    # the asked row
+    ("the asked row has its begin step", ASKED, "    add_block(shown, page.name[row])\n" + ASKED),
+    ("the asked row has its end step", ASKED, ASKED + "    add_block(shown, page.name[row])\n"),
+    ("the asked row has both", ASKED, "    add_row(shown, page, row)\n    add_block(shown, page.name[row])\n"),
+    ("an asked text is shown", ASKED, ASKED + "    if page.kind[row] == TEXT:\n        add_text(shown, page.value[row])\n"),
+    ("an asked script is left out", ASKED, "    if page.name[row] not in SILENT:\n    " + ASKED),
+    ("an asked br is left out", ASKED, "    if page.name[row] != b\"br\":\n    " + ASKED),
+    ("the sheet's root is asked", ASKED, ASKED.replace("[row]", "[page.root]")),
+    ("the text's end is stripped", ASKED, ASKED + "    shown.strip()\n"),
+    ("the text's start is stripped", MOST, "    return bytes(shown.text).lstrip(BLANKS), shown.need"),
+    # the answer
+    ("the need is the last length", MOST, "    return bytes(shown.text), len(shown.text)"),
+    ("the need is one more", TOO_SHORT, TOO_SHORT.replace("need,", "need + 1,")),
+    ("the need is the last length where out is short", TOO_SHORT, TOO_SHORT.replace("need,", "len(text),")),
+    ("the need is what is missing", TOO_SHORT, TOO_SHORT.replace("need,", "need - len(out),")),
+    ("the need counts characters", TOO_SHORT, TOO_SHORT.replace("need,", "need - len(text) + len(text.decode()),")),
+    ("the need counts the texts before they collapse", COLLAPSED,
+     "    shown.need = max(shown.need, len(shown.text) + len(value))\n" + COLLAPSED),
+    ("the need counts a text before its trim", TRIMS, "    shown.need = max(shown.need, len(shown.text) + len(value))\n" + TRIMS),
+    ("a block's LFs are needed before it strips", STRIP,
+     "        shown.need = max(shown.need, len(shown.text) + 1 + (name == b\"p\"))\n" + STRIP),
+    ("out must have a byte more", HOLDS, HOLDS.replace("<", "<=")),
+    ("out must hold the text alone", HOLDS, HOLDS.replace("need", "len(text)")),
+    ("53 clears out", TOO_SHORT, TOO_SHORT.replace(" out\n", " bytes(len(out))\n")),
+    ("53 leaves what fits", TOO_SHORT, TOO_SHORT.replace(" out\n", " (text + out)[:len(out)]\n")),
+    ("53 has a length", TOO_SHORT, TOO_SHORT.replace("0, 0]", "0, len(text)]")),
+    ("32 for 53", TOO_SHORT, TOO_SHORT.replace("53", "32")),
+    ("52 for 53", TOO_SHORT, TOO_SHORT.replace("53", "52")),
+    ("no zeros", ZEROS, "text + out[len(text):]"),
+    ("one zero", ZEROS, '(text + b"\\0" + out[len(text) + 1:])[:len(out)]'),
+    ("zeros to the need alone", ZEROS, "(text + bytes(need - len(text)) + out[need:])"),
+    ("what was taken away stays behind the text", ZEROS, "text + b\"\\n\" * (need - len(text)) + bytes(len(out) - need)"),
+    ("a visit", RIGHT, RIGHT.replace("0, 0, 0", "0, 0, 1")),
+    ("the visits are the rows below", RIGHT, RIGHT.replace("0, 0, 0", "0, 0, len(page.children[row])")),
+    ("the need as the second number", RIGHT, RIGHT.replace("0, 0, 0", "0, need, 0")),
+    ("the length is the need", RIGHT, RIGHT.replace("len(text)", "need")),
+    ("the length is out's", RIGHT, RIGHT.replace("len(text)", "len(out)")),
+    # the row
+    ("the row past the last is asked", NOT_THERE, "    row = min(row, len(page.kind) - 1) if row == len(page.kind) else row\n" + NOT_THERE),
+    ("35 with the number of rows", NO_ROW, NO_ROW.replace("[35, row,", "[35, len(page.kind),")),
+    ("35 with the line", NO_ROW, NO_ROW.replace("[35, row,", "[35, row + 1,")),
+    ("35 before the sheet's numbers", REFUSED, "    if refused and row > 50:\n        return [35, row, 0, 0], out\n" + REFUSED),
+    ("35 where the row is no element", NOT_THERE, "    if row >= len(page.kind) or page.kind[row] != ELEMENT:"),
+    ("35 where the row is not below the root", NOT_THERE, "    if row >= len(page.kind) or row < page.root:"),
+    ("a row is a line", ASKED, ASKED.replace("[row]", "[max(row - 1, 0)]")),
+    ("53 before the sheet's numbers", REFUSED, "    if refused and not out:\n        return [53, 1, 0, 0], out\n" + REFUSED),
+    ("a refusal clears out", REFUSED, REFUSED.replace(" out\n", " bytes(len(out))\n")),
+    ("35 clears out", NO_ROW, NO_ROW.replace(" out\n", " bytes(len(out))\n")),
+]
+for name in """address article aside blockquote canvas dd div dl dt fieldset figcaption figure footer form h1 h2 h3 h4 h5 h6 header hr li
+        main nav ol p pre section table tfoot ul video""".split():
+    VISIBLE_TEXT.append(("%s is no block" % name, BLOCK_SET, BLOCK_SET + '\nBLOCKS.remove(b"%s")' % name))
+for code in [0x0B, 0x85, 0xA0, 0x1680, *range(0x2000, 0x200B), 0x2028, 0x2029, 0x202F, 0x205F, 0x3000]:
+    VISIBLE_TEXT.append(("U+%04X is not trimmed" % code, WHITE_SET, "(?:(?!\\\\u%04x)%s)" % (code, WHITE_SET)))
+for code in 8, 14, 0x1C, 0x1F, 0x84, 0x86, 0x167F, 0x1681, 0x180E, 0x1FFF, 0x200B, 0x2027, 0x202A, 0x2060, 0x2FFF, 0x3001, 0xFEFF:
+    VISIBLE_TEXT.append(("U+%04X is trimmed" % code, WHITE_SET, WHITE_SET.replace("[", "[\\\\u%04x" % code)))
+
+# these change nothing that a call can show: what is trimmed begins with no blank, and collapsing touches no other White_Space
+SAME_TEXT = [
+    ("the trim goes before the collapse", COLLAPSED + TRIMS + TRIMMED, TRIMS + TRIMMED + COLLAPSED),
+    ("a script's end step", END, "    if rows and page.name[rows[-1]] not in SILENT:\n        add_block(shown, page.name[rows[-1]])\n"),
+]
+
+SAMPLES = [
+    ("replay", "reference.py", "--program", WRONG, SAME),
+    ("unescape", "unescape.py", "answers", UNESCAPE, []),
+    ("visible_text", "visible_text.py", "answers", VISIBLE_TEXT, SAME_TEXT),
+]
 
 
 def said(file, mode, cases, old, new):

@@ -151,6 +151,21 @@ static void texts(void) {
     check_bytes("unescape", out, "a<\"&\0\0\0\0########", 16);
 }
 
+static void visible_texts(void) {
+    uint8_t out[24];
+    memset(out, '#', sizeof out);
+    check_answer("visible text of 0, out too short", levzhada_visible_text(sheet, sheet_length, 0, out, 9),
+                 LEVZHADA_VISIBLE_TEXT_OUT_TOO_SHORT, 10, 0, 0);
+    check_answer("visible text of 6", levzhada_visible_text(sheet, sheet_length, 6, out, 0), LEVZHADA_NO_ROW, 6, 0, 0);
+    check_answer("visible text in no sheet", levzhada_visible_text(sheet, 32, 6, out, 0), LEVZHADA_WRONG_LENGTH, 33, 0, 0);
+    check_bytes("visible text, refused", out, "########################", 24);
+    check_answer("visible text of 0", levzhada_visible_text(sheet, sheet_length, 0, out, 16), LEVZHADA_ACCEPTED, 0, 0, 10);
+    check_bytes("visible text of 0", out, "\n\na b\n\n&\n\n\0\0\0\0\0\0########", 24);
+    check_answer("visible text of 1", levzhada_visible_text(sheet, sheet_length, 1, out, 4), LEVZHADA_ACCEPTED, 0, 0, 4);
+    check_bytes("visible text of 1", out, "a b ", 4);
+    check_answer("visible text of 3", levzhada_visible_text(sheet, sheet_length, 3, out, 0), LEVZHADA_ACCEPTED, 0, 0, 0);
+}
+
 int main(void) {
     version();
     verdicts();
@@ -159,5 +174,6 @@ int main(void) {
     measures();
     patterns();
     texts();
+    visible_texts();
     return close_checks();
 }

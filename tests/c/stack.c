@@ -164,6 +164,11 @@ static void unescape(void) {
     levzhada_unescape(bytes(sheet), sheet_length, out, ROOM);
     levzhada_unescape(work, escaped, out, ROOM);
 }
+/* written, and measured alone */
+static void visible_text(void) {
+    levzhada_visible_text(bytes(sheet), sheet_length, asked, out, ROOM);
+    levzhada_visible_text(bytes(sheet), sheet_length, asked, out, 0);
+}
 /* with alt_texts off */
 static void mark(void) { levzhada_mark((uint8_t *)sheet, sheet_length, bytes("10100011000\n"), LINE, 0); }
 
@@ -195,6 +200,7 @@ static const struct {
     {"levzhada_escape", escape},
     {"levzhada_unescape", unescape},
     {"levzhada_mark", mark},
+    {"levzhada_visible_text", visible_text},
 };
 enum { OTHERS = sizeof others / sizeof *others };
 
@@ -229,6 +235,7 @@ int main(void) {
         check_answer("a sheet of 20,000 rows", levzhada_check(bytes(sheet), sheet_length), LEVZHADA_ACCEPTED, 0, 0, 0);
         extractions(&large);
         escaped = levzhada_escape(bytes(sheet), sheet_length, work, ROOM).length;
+        check("a visible text", levzhada_visible_text(bytes(sheet), sheet_length, 0, out, ROOM).number, LEVZHADA_ACCEPTED);
         check_answer("a sheet, escaped", levzhada_unescape(work, escaped, out, ROOM), LEVZHADA_ACCEPTED, 0, 0, sheet_length);
         for (size_t j = 0; j < OTHERS; j++)
             for (int i = 0; i < 5; i++) {

@@ -89,7 +89,7 @@ pub struct Text {
 /// How long both buffers are at first: half the sheet's length. A row's line has 65 bytes and most rows show fewer than half as many, so
 /// that this is mostly enough; a page that needs more is read once or twice again. Not less than 4,096, since few rows can show the
 /// whole of a small sheet, and not more than half of the longest sheet that is accepted.
-fn first_length(sheet: &[u8]) -> usize {
+pub(crate) fn first_length(sheet: &[u8]) -> usize {
     (sheet.len() / 2).clamp(4_096, 7_474_337 / 2)
 }
 
@@ -124,7 +124,7 @@ pub fn extract(sheet: &[u8], options: &Options) -> Result<Text, Refusal> {
 }
 
 /// The text that stands in `out`.
-fn text_of(a: raw::Answer, mut out: Vec<u8>) -> Result<Text, Refusal> {
+pub(crate) fn text_of(a: raw::Answer, mut out: Vec<u8>) -> Result<Text, Refusal> {
     out.truncate(a.length);
     let visits = a.visits;
     match String::from_utf8(out) {

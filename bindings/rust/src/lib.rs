@@ -17,12 +17,14 @@
 
 mod extract;
 mod mark;
+mod visible_text;
 
 pub use extract::{extract, Formatting, Options, Text};
 pub use mark::mark;
 use std::error::Error;
 use std::fmt;
 use std::ops::Range;
+pub use visible_text::visible_text;
 
 /// The stack that the archive takes in any call, in bytes: at most this, as measured. A thread that makes calls has it and some more for
 /// its own frames.
@@ -97,6 +99,13 @@ mod raw {
             options_length: usize,
             noscript: usize,
         ) -> Answer;
+        pub fn levzhada_visible_text(
+            sheet: *const u8,
+            sheet_length: usize,
+            row: usize,
+            out: *mut u8,
+            out_length: usize,
+        ) -> Answer;
         pub fn levzhada_collapse(
             text: *const u8,
             text_length: usize,
@@ -154,6 +163,8 @@ pub enum Refusal {
     Entity(usize),
     /// 52: the characters of an escaped text need this many bytes, and the allocator has not got them.
     Characters(usize),
+    /// 53: the visible text of a row needs this many bytes while it is written, and the allocator has not got them.
+    VisibleText(usize),
     /// An answer that the archive is proved never to give here, in its numbers; of a text that is not UTF-8, 0 and where that begins.
     /// Another archive was linked.
     Other(usize, usize),
@@ -178,6 +189,7 @@ impl Refusal {
             Refusal::Pattern(pattern) => (36, pattern),
             Refusal::Entity(at) => (51, at),
             Refusal::Characters(need) => (52, need),
+            Refusal::VisibleText(need) => (53, need),
             Refusal::Other(number, second) => (number, second),
         }
     }
@@ -205,6 +217,9 @@ impl fmt::Display for Refusal {
             Refusal::Entity(at) => write!(f, "{number}: the ampersand at {at} starts no name"),
             Refusal::Characters(need) => {
                 write!(f, "{number}: no memory for {need} bytes of characters")
+            }
+            Refusal::VisibleText(need) => {
+                write!(f, "{number}: no memory for {need} bytes of visible text")
             }
             Refusal::Other(number, second) => write!(
                 f,
@@ -235,6 +250,7 @@ fn accepted(a: raw::Answer) -> Result<raw::Answer, Refusal> {
         (36, pattern) => Refusal::Pattern(pattern),
         (51, at) => Refusal::Entity(at),
         (52, need) => Refusal::Characters(need),
+        (53, need) => Refusal::VisibleText(need),
         (number, second) => Refusal::Other(number, second),
     })
 }

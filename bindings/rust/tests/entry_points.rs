@@ -50,6 +50,16 @@ fn rows() {
 }
 
 #[test]
+fn visible_texts() {
+    let ok = |text: &str| Ok(text.to_string());
+    assert_eq!(levzhada::visible_text(PAGE, 0), ok("\n\na b\n\n&\n\n"));
+    assert_eq!(levzhada::visible_text(PAGE, 1), ok("a b "));
+    assert_eq!(levzhada::visible_text(PAGE, 3), ok(""));
+    assert_eq!(levzhada::visible_text(PAGE, 6), Err(Refusal::Row(6)));
+    assert_eq!(levzhada::visible_text(b"", 6), Err(Refusal::Length(33)));
+}
+
+#[test]
 fn attributes() {
     assert_eq!(levzhada::attribute(PAGE, 0, b"class"), Ok(Some(17..20)));
     assert_eq!(levzhada::attribute(PAGE, 1, b"id"), Ok(Some(22..22)));
@@ -215,6 +225,7 @@ fn the_header_has_the_same_numbers() {
         ("NO_PATTERN", Refusal::Pattern(0)),
         ("NO_ENTITY", Refusal::Entity(0)),
         ("UNESCAPE_OUT_TOO_SHORT", Refusal::Characters(0)),
+        ("VISIBLE_TEXT_OUT_TOO_SHORT", Refusal::VisibleText(0)),
     ];
     assert_eq!(defined("LEVZHADA_ACCEPTED"), "0");
     assert_eq!(defined("LEVZHADA_WRONG_OPTIONS"), "33");

@@ -179,3 +179,15 @@ fn no_memory_for_characters() {
         assert_eq!(refusal.numbers(), (52, 220_000_000));
     }
 }
+
+#[test]
+fn no_memory_for_a_visible_text() {
+    if is_limited("no_memory_for_a_visible_text", 400_000) {
+        let sheet = rows(150, 3, &"x".repeat(4_194_300));
+        let refusal = levzhada::visible_text(&sheet, 0).unwrap_err();
+        assert_eq!(refusal, Refusal::VisibleText(629_145_000));
+        assert_eq!(refusal.numbers(), (53, 629_145_000));
+        let said = "53: no memory for 629145000 bytes of visible text";
+        assert_eq!(refusal.to_string(), said);
+    }
+}

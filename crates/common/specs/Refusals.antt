@@ -59,3 +59,8 @@ noEntity = 51
 
 abbrev pub unescapeOutTooShort : ℕ
 unescapeOutTooShort = 52
+
+-- ---- the visible text of a row does not fit
+
+abbrev pub visibleTextOutTooShort : ℕ
+visibleTextOutTooShort = 53

@@ -57,6 +57,9 @@ impl Answer {
 
     pub const UNESCAPE_OUT_TOO_SHORT: usize = 52;
 
+    // The visible text of a row does not fit.
+    pub const VISIBLE_TEXT_OUT_TOO_SHORT: usize = 53;
+
     pub fn refused(number: usize, second: usize) -> Answer
         ensures { λ r. ⌜ r ≡ refused number second ⌝ }
     {

@@ -22,8 +22,8 @@ module _ (filters : (ℕ → Node) → List ℕ → ℕ → ExtractOptions → �
         blanks = blanks-right (filteredBy filters) (pageOf s₁ (sheet .layout)) o t₁ is-off (gives-text filters (sheet .layout) (sheet .is-sheet) g₁);
         pieces = λ s₂ out₂ work₂ t₂ g₂ l alike cells₁ cells₂.
             let marks = further-marks alike in
-            let right₁ = page-right (accepts (lit≤ tt) (alike .first) .1) in
-            let right₂ = page-right (accepts (lit≤ tt) (alike .second) .1) in
+            let right₁ = page-right (accepts (lit≤ tt) (alike .bytes .first) .1) in
+            let right₂ = page-right (accepts (lit≤ tt) (alike .bytes .second) .1) in
             texts-are-pieces (filteredBy filters) o (pageOf s₁ l) (pageOf s₂ l) marks (λ i. filters (marks .node i) (marks .depths i) (l .root) o) t₁ t₂ is-off right₁ right₂ cells₁ cells₂
-            (gives-text filters l (alike .first) g₁) (gives-text filters l (alike .second) g₂);
+            (gives-text filters l (alike .bytes .first) g₁) (gives-text filters l (alike .bytes .second) g₂);
       }

@@ -6,8 +6,9 @@ use lib.Dec.{T, eqb}
 use Rattle.options.specs.Options.{withLinks}
 use Rattle.options.specs.declared.ExtractOptions.{ExtractOptions}
 use Rattle.options.specs.declared.Formatting.the-variants.{Off, Basic, MinimalHtml}
+use Rattle.tree.specs.SmallPages.{Rows, _is_, tagged, plain, words, page}
 use Rattle.html2text.specs.Escapes.{escapedLength}
-use Rattle.html2text.specs.Examples.{Rows, _is_, tagged, plain, words, page, formatted, linked, fielded, picturing}
+use Rattle.html2text.specs.Examples.{formatted, linked, fielded, picturing}
 
 pub record Counted : Type 0 where
   pub options : ExtractOptions

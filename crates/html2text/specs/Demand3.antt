@@ -3,16 +3,15 @@ use mathlib.Core.Path.{_≡_}
 use mathlib.Core.Bool.{Bool, true, false}
 use mathlib.Core.List.{List}
 use mathlib.Core.Logic.{_⊎_}
-use Prim.Native.Nat.{ℕ, _+_, _*_, _≤_, _<_}
-use lib.ListN.{length, getD, take}
+use Prim.Native.Nat.{ℕ, _<_}
+use lib.ListN.{length, take}
 use Rattle.common.specs.Bytes.{Bytes}
 use Rattle.options.specs.declared.ExtractOptions.{ExtractOptions}
 use Rattle.options.specs.declared.Formatting.the-variants.{Off}
 use Rattle.sheet.specs.Column.{parentOf}
-use Rattle.sheet.specs.Layout.{nodeStart, depths}
-use Rattle.sheet.specs.Verdict.{verdict}
+use Rattle.sheet.specs.Layout.{depths}
 use Rattle.sheet.specs.declared.line.Layout.{Layout}
-use Rattle.sheet.specs.declared.verdict.Verdict.the-variants.{Sheet}
+use Rattle.tree.specs.AlikeSheets.{AlikeButSkips}
 use Rattle.tree.specs.Forest.{Descendant}
 use Rattle.tree.specs.Node.{Node}
 use Rattle.tree.specs.Page.{pageOf}
@@ -22,20 +21,9 @@ use Rattle.html2text.specs.declared.Extraction.the-variants.{Text}
 
 -- ---- two sheets that differ in marks
 
--- place k of the sheet lies in the third column of a node line: "depth, kind, skip, .."
-pub record InSkip (l : Layout) (k : ℕ) : Type 0 where
-  pub row : ℕ
-  pub there : row < l .nodes
-  pub from : nodeStart l row + 2 * l .width ≤ k
-  pub to : k < nodeStart l row + 3 * l .width
-
 -- "alike but for further marks in the second, on any rows that are the root or below it"
 pub record AlikeButMarks (s₁ s₂ : Bytes) (l : Layout) : Type 0 where
-  pub first : verdict s₁ ≡ Sheet l
-  pub second : verdict s₂ ≡ Sheet l
-  pub size : length s₂ ≡ length s₁
-  -- every other byte is the same
-  pub same : (k : ℕ) → (InSkip l k → ⊥) → getD s₂ k 0 ≡ getD s₁ k 0
+  pub bytes : AlikeButSkips s₁ s₂ l
   -- a row that is marked in the first is marked in the second
   pub kept : (i : ℕ) → i < l .nodes → pageOf s₁ l .marked i ≡ true → pageOf s₂ l .marked i ≡ true
   -- and one that is marked in the second alone is the root or stands below it

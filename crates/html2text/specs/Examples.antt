@@ -1,52 +1,21 @@
 -- Worked examples: small pages with the texts, visits and needs that the Rust's functions have for them or, with missing_alt on, that
 -- document 02, CR 4, asks for, and calls with buffers.
-use mathlib.Core.Bool.{Bool, true, false, _&&_, _||_, cond}
-use mathlib.Core.List.{List, [], _∷_, _++_, map}
+use mathlib.Core.Bool.{Bool, true, false, _&&_, cond}
+use mathlib.Core.List.{List, [], _∷_, _++_}
 use Prim.Native.Nat.{ℕ}
 use Prim.Native.String.{String}
 use lib.Dec.{T, eqb}
-use lib.ListN.{length, getD, replicate}
+use lib.ListN.{length, replicate}
 use Rattle.common.specs.Answer.{Answer, refused, accepted}
 use Rattle.common.specs.Bytes.{Bytes, codes, same}
 use Rattle.options.specs.Options.{standing, withFormatting, withMainContent, withListBullets, withAltTexts, withLinks, withFormFields, withMissingAlt}
 use Rattle.options.specs.declared.ExtractOptions.{ExtractOptions}
 use Rattle.options.specs.declared.Formatting.{Formatting}
 use Rattle.options.specs.declared.Formatting.the-variants.{Off, Basic, MinimalHtml}
-use Rattle.tree.specs.Node.{element, text, comment, Attribute, Node}
+use Rattle.tree.specs.Node.{Node}
 use Rattle.tree.specs.Page.{Page}
+use Rattle.tree.specs.SmallPages.{_is_, tagged, plain, words, remark, page}
 use Rattle.html2text.specs.Extract.{Run, going, tooManyLevels, tooManyRows, serialized, finished, entries, passes, workNeed, extraction, outAfter, workAfter, numbers, extractionOf, outAfterOf, workAfterOf}
-
--- ---- pages
-
--- the rows of a page, each with its depth
-abbrev pub Rows : Type 0
-Rows = List (ℕ × Node)
-
-infix 90 _is_
--- an attribute, a row with a name and attributes, a text, a comment
-abbrev pub _is_ : String → String → Attribute
-name is value = record { name = codes name; value = codes value }
-
-abbrev pub tagged : String → List Attribute → Node
-tagged name attributes = record { kind = element; name = codes name; value = []; attributes = attributes }
-
-abbrev pub plain : String → Node
-plain name = tagged name []
-
-abbrev pub words : String → Node
-words value = record { kind = text; name = []; value = codes value; attributes = [] }
-
-abbrev pub remark : String → Node
-remark value = record { kind = comment; name = []; value = codes value; attributes = [] }
-
-abbrev pub among : ℕ → List ℕ → Bool
-among i [] = false
-among i (j ∷ js) = eqb i j || among i js
-
--- the rows, those that are marked, and the root
-abbrev pub page : Rows → List ℕ → ℕ → Page
-page rows marks root =
-    record { depths = map (λ (r : ℕ × Node). r .0) rows; node = λ i. getD rows i (0, plain "body") .1; marked = λ i. among i marks; root = root }
 
 -- ---- the standing options but for formatting and one more
 

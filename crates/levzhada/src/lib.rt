@@ -8,6 +8,7 @@ use numbers::of_matched;
 use numbers::of_relative;
 use numbers::of_unescaped;
 use numbers::of_verdict;
+use numbers::of_visible_text;
 use numbers::of_written;
 use numbers::values::LinkMeasure;
 use numbers::values::Range;
@@ -28,6 +29,7 @@ use reader::next_sibling_of;
 use reader::parent_of;
 use reader::text_length_of;
 use reader::unescape;
+use reader::visible_text;
 ghost use mathlib.Core.Path.{_≡_};
 ghost use lib.ListN.{length};
 ghost use Rattle.common.specs.Answer.{outAfter, refused, writtenIn};
@@ -43,6 +45,7 @@ ghost use Rattle.tree.specs.Questions.{relativeNumbers};
 ghost use Rattle.tree.specs.Rows.{firstChildOf, nextSiblingOf};
 ghost use Rattle.tree.specs.TextLength.{lengthNumbers};
 ghost use Rattle.unescape.specs.Answers as unescapes;
+ghost use Rattle.visible_text.specs.Answers as visible_texts;
 ghost use Rattle.levzhada.specs.Answers.{extractNumbers, extractOut, extractWork, markNumbers, markSheet};
 
 // The answer to a wrong option line, before the sheet is looked at.
@@ -166,4 +169,12 @@ pub extern "C" fn levzhada_unescape(text: &[u8], out: &mut [u8]) -> Answer
     ensures buffer { λ r. ⌜ now (out .exit) ≡ unescapes.unescapedOut (now (text .entry)) (now (out .entry)) ⌝ }
 {
     of_unescaped(unescape(text, out))
+}
+
+#[no_mangle]
+pub extern "C" fn levzhada_visible_text(sheet: &[u8], row: usize, out: &mut [u8]) -> Answer
+    ensures answer { λ r. ⌜ r ≡ visible_texts.numbers (visible_texts.visibleTextIn (now (sheet .entry)) row (length (now (out .entry)))) ⌝ }
+    ensures buffer { λ r. ⌜ now (out .exit) ≡ visible_texts.visibleTextOut (now (sheet .entry)) row (now (out .entry)) ⌝ }
+{
+    of_visible_text(visible_text(sheet, row, out))
 }

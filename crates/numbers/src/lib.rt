@@ -12,6 +12,7 @@ use tree::attributes::AttributeAnswer;
 use tree::content::LengthAnswer;
 use tree::questions::Relative;
 use unescape::Unescaped;
+use visible_text::VisibleText;
 ghost use mathlib.Core.Path.{_≡_};
 ghost use Rattle.common.specs.Answer as common;
 ghost use Rattle.html2text.specs.Extract as html2text;
@@ -24,6 +25,7 @@ ghost use Rattle.tree.specs.Attributes as attributes;
 ghost use Rattle.tree.specs.Questions as questions;
 ghost use Rattle.tree.specs.TextLength as lengths;
 ghost use Rattle.unescape.specs.Answers as unescapes;
+ghost use Rattle.visible_text.specs.Answers as visible_texts;
 
 pub mod values;
 
@@ -58,6 +60,17 @@ pub fn of_verdict(v: Verdict) -> Answer
         Verdict::Kind(line) => Answer::refused(Answer::WRONG_KIND, line),
         Verdict::Range(line) => Answer::refused(Answer::WRONG_RANGE, line),
         Verdict::Encoding(line) => Answer::refused(Answer::NOT_UTF8, line),
+    }
+}
+
+pub fn of_visible_text(t: VisibleText) -> Answer
+    ensures { λ r. ⌜ r ≡ visible_texts.numbers t ⌝ }
+{
+    match t {
+        VisibleText::Text(n) => Answer::accepted(0, 0, n),
+        VisibleText::NoRow(i) => Answer::refused(Answer::NO_ROW, i),
+        VisibleText::Refused(v) => of_verdict(v),
+        VisibleText::TooShort(need) => Answer::refused(Answer::VISIBLE_TEXT_OUT_TOO_SHORT, need),
     }
 }
 

@@ -12,6 +12,7 @@ use Rattle.options.specs.declared.ExtractOptions.{ExtractOptions}
 use Rattle.sheet.specs.Verdict.{verdict}
 use Rattle.sheet.specs.declared.line.Layout.{Layout}
 use Rattle.sheet.specs.declared.verdict.Verdict.the-variants.{Sheet}
+use Rattle.tree.specs.AlikeSheets.{AlikeButSkips}
 use Rattle.tree.specs.Page.{pageOf}
 use Rattle.reader.specs.Marked.{after, MarkedTexts}
 use Rattle.reader.proofs.DemandsLaws.{demand-3}
@@ -20,13 +21,19 @@ module _ (s : Bytes) (l : Layout) (by : ExtractOptions) (noscript : Bool) (e : v
   m : SheetMarked s l by noscript
   m = sheet-marked s l by noscript e
 
-  alike : AlikeButMarks s (after s l by noscript) l
-  alike =
+  alike-but-skips : AlikeButSkips s (after s l by noscript) l
+  alike-but-skips =
       record {
         first = e;
         second = m .accepted;
         size = m .size;
         same = λ k out. m .bytes k (λ i h new x. out (record { row = i; there = h; from = x .from; to = x .to }));
+      }
+
+  alike : AlikeButMarks s (after s l by noscript) l
+  alike =
+      record {
+        bytes = alike-but-skips;
         kept = λ i h old. m .marks i h ∙ or-right (chosen s l by noscript i) _ old;
         below = λ i h old new.
             let either = sym (m .marks i h) ∙ new in

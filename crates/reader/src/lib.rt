@@ -17,6 +17,7 @@ pub use tree::questions::first_child_of;
 pub use tree::questions::next_sibling_of;
 pub use tree::questions::parent_of;
 pub use unescape::unescape;
+pub use visible_text::visible_text;
 ghost use mathlib.Core.Path.{_≡_};
 ghost use lib.ListN.{length};
 ghost use Rattle.html2text.specs.Escapes.{readIn};

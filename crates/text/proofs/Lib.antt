@@ -1,5 +1,6 @@
 pub mod CollapseLaws
 pub mod EscapeLaws
+pub mod RunLaws
 pub mod SpaceLaws
 pub mod StruckLaws
 pub mod TrimLaws

@@ -5,7 +5,7 @@ use mathlib.Core.List.{[], _∷_, _++_}
 use Prim.Native.Nat.{ℕ, _*_, _≤_}
 use lib.ListN.{length}
 use Rattle.common.specs.Bytes.{Bytes}
-use Rattle.text.specs.Collapsed.{Collapsed}
+use Rattle.text.specs.Collapsed.{Collapsed, RunsCollapsed}
 use Rattle.text.specs.Text.{rstripBy, trimBy, collapseBy, struckBy, escape}
 
 module _ (blank : ℕ → Bool) where
@@ -19,6 +19,10 @@ module _ (blank : ℕ → Bool) where
   -- after `collapse` every blank is U+0020, and no two stand together
   abbrev pub Collapses : Type 0
   Collapses = blank 0x20 ≡ true → (s : Bytes) → Collapsed blank (collapseBy blank s)
+
+  -- "each run of blanks becomes one U+0020, all other bytes stay in order"
+  abbrev pub CollapsesRuns : Type 0
+  CollapsesRuns = (s : Bytes) → RunsCollapsed blank s (collapseBy blank s)
 
   -- once more changes nothing
   pub record Idempotent : Type 0 where

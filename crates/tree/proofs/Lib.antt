@@ -1,3 +1,4 @@
+pub mod AlikeSheets
 pub mod AttributeLines
 pub mod Column
 pub mod Descendants
@@ -5,6 +6,7 @@ pub mod Examples
 pub mod Forests
 pub mod Left
 pub mod NodeLaws
+pub mod OpenRows
 pub mod Order
 pub mod PageLaws
 pub mod PastLaws

@@ -1,9 +1,11 @@
+pub mod AlikeSheets
 pub mod Attributes
 pub mod Forest
 pub mod Node
 pub mod Page
 pub mod Questions
 pub mod Rows
+pub mod SmallPages
 pub mod TextContent
 pub mod TextLength
 pub mod Theorems

@@ -71,3 +71,8 @@ pastFrom d j (x ∷ depths) = elim (ltb d x) [ true ↦ pastFrom d (suc j) depth
 -- the first row past row i and all below it
 abbrev pub pastOf : List ℕ → ℕ → ℕ
 pastOf depths i = pastFrom (getD depths i 0) (suc i) (drop (suc i) depths)
+
+-- what is kept of the open rows, innermost first, in a stack that holds n
+unfoldable pub openRows : List ℕ → ℕ → List ℕ
+openRows stack zero = []
+openRows stack (suc n) = getD stack n 0 ∷ openRows stack n

@@ -7,17 +7,18 @@ use native.Mathlib.Omega.{arith}
 use native.Mathlib.Numerals.{add-one}
 use lib.ListN.{length, getD, set, drop, length-set}
 use Rattle.tree.specs.Forest.{hasTrees}
-use Rattle.tree.specs.Rows.{childrenOf, standsAt, pastFrom}
+use Rattle.tree.specs.Rows.{childrenOf, standsAt, pastFrom, openRows}
 use Rattle.tree.proofs.Forests.{stands-there, forest-none, children-are}
+use Rattle.tree.proofs.OpenRows.{open-length, open-more, open-less}
 use Rattle.tree.proofs.PastLaws.{past-at}
-use Rattle.walk.specs.Turns.{treeAt, turns, flagged, openRows, remaining, turnsLeft, ColumnRight, Fits, Advances}
+use Rattle.walk.specs.Turns.{treeAt, turns, flagged, remaining, turnsLeft, ColumnRight, Fits, Advances}
 use Rattle.walk.specs.declared.cursor.Next.{Next}
 use Rattle.walk.specs.declared.cursor.Next as next
 use Rattle.walk.specs.declared.cursor.Turn.{Turn}
 use Rattle.walk.specs.declared.cursor.Turn.the-variants.{Begin, End, LeftOut}
 use Rattle.walk.specs.declared.cursor.Walk.{Walk}
 use Rattle.walk.specs.declared.cursor.Walk.the-variants.{Root, Below}
-use Rattle.walk.proofs.TurnLaws.{open-length, open-more, open-less, turns-left-out, turns-alone, turns-open, remaining-skip, remaining-here, remaining-end, remaining-open}
+use Rattle.walk.proofs.TurnLaws.{turns-left-out, turns-alone, turns-open, remaining-skip, remaining-here, remaining-end, remaining-open}
 
 module _ (depths : List ℕ) (left : List Bool) (stack : List ℕ) (base above k : ℕ) where
   -- the passes of row k, and those behind it

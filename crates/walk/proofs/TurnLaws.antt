@@ -2,37 +2,15 @@
 use mathlib.Core.Path.{_≡_, refl, sym, ap, ap₂, _∙_}
 use mathlib.Core.Bool.{Bool, true, false}
 use mathlib.Core.List.{List, [], _∷_, _++_, append-assoc}
-use Prim.Native.Nat.{ℕ, zero, suc, _+_, _≤_, _<_}
+use Prim.Native.Nat.{ℕ, suc, _+_, _≤_, _<_}
 use native.Mathlib.Omega.{arith}
-use lib.ListN.{length, getD, set, drop}
-use lib.Seq.{getD-set-same, getD-set-other}
+use lib.ListN.{length, getD, drop}
 use Rattle.tree.specs.Forest.{Forest, empty, node, hasTrees}
 use Rattle.tree.specs.Rows.{childrenOf, forestFrom, pastFrom}
 use Rattle.tree.proofs.Forests.{no-trees, forest-deeper, forest-here, forest-skip}
-use Rattle.walk.specs.Turns.{treeAt, rowTurns, turns, openRows, remaining}
+use Rattle.walk.specs.Turns.{treeAt, rowTurns, turns, remaining}
 use Rattle.walk.specs.declared.cursor.Turn.{Turn}
 use Rattle.walk.specs.declared.cursor.Turn.the-variants.{Begin, End, LeftOut}
-
--- ---- the open rows
-
-pub open-length : (stack : List ℕ) (n : ℕ) → length (openRows stack n) ≡ n
-unfolding openRows
-open-length stack zero = refl
-open-length stack (suc n) = ap suc (open-length stack n)
-
--- a store behind them changes none
-open-kept : (stack : List ℕ) (at n k : ℕ) → n ≤ at → openRows (set stack at k) n ≡ openRows stack n
-unfolding openRows
-open-kept stack at zero k h = refl
-open-kept stack at (suc n) k h = ap₂ (λ (i : ℕ) (l : List ℕ). i ∷ l) (getD-set-other stack at n k 0 (omega arith)) (open-kept stack at n k (omega arith))
-
-pub open-more : (stack : List ℕ) (n k : ℕ) → n < length stack → openRows (set stack n k) (suc n) ≡ k ∷ openRows stack n
-unfolding openRows
-open-more stack n k h = ap₂ (λ (i : ℕ) (l : List ℕ). i ∷ l) (getD-set-same stack n k 0 h) (open-kept stack n n k (omega arith))
-
-pub open-less : (stack : List ℕ) (n : ℕ) → openRows stack (suc n) ≡ getD stack n 0 ∷ openRows stack n
-unfolding openRows
-open-less stack n = refl
 
 -- ---- a first tree and the others
 

@@ -2,11 +2,11 @@
 use mathlib.Core.Path.{_≡_}
 use mathlib.Core.Bool.{Bool, true, false, cond}
 use mathlib.Core.List.{List, [], _∷_, _++_}
-use Prim.Native.Nat.{ℕ, zero, suc, _+_, _≤_, _<_}
+use Prim.Native.Nat.{ℕ, suc, _+_, _≤_, _<_}
 use lib.ListN.{length, getD}
 use Rattle.tree.specs.Forest.{Forest, empty, node, hasTrees}
 use Rattle.tree.specs.Node.{Node}
-use Rattle.tree.specs.Rows.{WellFormed, childrenOf, forestFrom}
+use Rattle.tree.specs.Rows.{WellFormed, childrenOf, forestFrom, openRows}
 use Rattle.html2text.specs.Collect.{Event}
 use Rattle.html2text.specs.Walk.{leftOut, eventAt, events, visits}
 use Rattle.walk.specs.declared.cursor.Turn.{Turn}
@@ -53,11 +53,6 @@ Agree left other (node i children rest) = (left i ≡ other i) × (left i ≡ fa
 -- the rows that are marked in a list
 abbrev pub flagged : List Bool → ℕ → Bool
 flagged left i = getD left i false
-
--- the open rows, innermost first, of a stack that holds n
-unfoldable pub openRows : List ℕ → ℕ → List ℕ
-openRows stack zero = []
-openRows stack (suc n) = getD stack n 0 ∷ openRows stack n
 
 module _ (depths : List ℕ) (left : ℕ → Bool) where
   -- with the rows from row k on still to come and the root at depth `base`: below the innermost open row, its end, and then the same of

@@ -4,8 +4,8 @@ ghost use mathlib.Core.Path.{_≡_};
 ghost use mathlib.Core.List.{_++_};
 ghost use Prim.Native.Nat.{suc, _+_, _≤_, _<_};
 ghost use lib.ListN.{drop, getD, length};
-ghost use Rattle.tree.specs.Rows.{pastFrom, standsAt};
-ghost use Rattle.walk.specs.Turns.{Advances, ColumnRight, Fits, flagged, openRows, remaining, treeAt, turns, turnsLeft};
+ghost use Rattle.tree.specs.Rows.{openRows, pastFrom, standsAt};
+ghost use Rattle.walk.specs.Turns.{Advances, ColumnRight, Fits, flagged, remaining, treeAt, turns, turnsLeft};
 
 // A pass of the walk's loop: a row begins, a row that has children ends, or a row is left out. Depths count from the root.
 pub enum Turn {

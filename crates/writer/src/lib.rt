@@ -11,7 +11,7 @@ ghost use Rattle.writer.specs.Writing.{Does, Ready, grown, stored, trimm
 
 mod reading;
 pub mod texts;
-mod words;
+pub mod words;
 
 // The text's length, its length without the blanks at its end, and the greatest length that it ever had.
 pub struct Writer {

@@ -283,7 +283,7 @@ fn put_octets(
 }
 
 // The eight bytes of a number.
-fn store_octets(out: &mut [u8], at: usize, word: usize, write: bool)
+pub fn store_octets(out: &mut [u8], at: usize, word: usize, write: bool)
     requires { ⌜ (write ≡ true → at + 8 ≤ length (now out)) ⌝ }
     ensures { λ r. ⌜ now (out .exit) ≡ stored write (now (out .entry)) at (octets 8 word) ⌝ }
 {

@@ -56,9 +56,9 @@ fn first_mark(marks: usize, space: bool) -> usize
 }
 
 // Whether every blank is U+0020 and none stands behind another, with one before them where `space`: one test, since which of them fails is
-// not foreseen.
-fn is_squeezed(w: usize, space: bool) -> bool
-    ensures { λ r. ⌜ (r ≡ true → Plain true space 0 w) ⌝ }
+// not foreseen. Where it says yes no byte is below U+0020, so that it serves for another set of blanks too.
+pub fn is_squeezed(w: usize, space: bool) -> bool
+    ensures { λ r. ⌜ (r ≡ true → Plain true space 0 w × Each (λ c. 0x20 ≤ c) (octets 8 w)) ⌝ }
 {
     let m = spaces(w);
     ((m & (m / 256)) | first_mark(m, space)) | controls(w) == 0

@@ -12,13 +12,13 @@ use Rattle.writer.proofs.words.is_plain.Tie as tie
 returns-2 : tie.Need-returns-2
 returns-2 c = λ t.
     rw (c .before .before .before .if1 .taken, eqb-true (c .before .before .before .before .args .times) 0 t)
-    (c .before .before .is-squeezed .ensures (not-false _ (c .before .if2 .left)))
+    (c .before .before .is-squeezed .ensures (not-false _ (c .before .if2 .left)) .0)
 
 -- squeezed and escaped
 returns-3 : tie.Need-returns-3
 returns-3 c = λ t.
     rw (c .before .before .before .before .if1 .taken)
-    (plain-bare (c .before .before .before .is-squeezed .ensures (not-false _ (c .before .before .if2 .left))) (c .is-bare .ensures t) _)
+    (plain-bare (c .before .before .before .is-squeezed .ensures (not-false _ (c .before .before .if2 .left)) .0) (c .is-bare .ensures t) _)
 
 -- neither
 returns-5 : tie.Need-returns-5

@@ -15,8 +15,11 @@ returns c = λ t.
     let k = c .before .first-mark .result in
     let p = or-none (bitOr (bitAnd m (m / 256)) k) (c .controls .result) (eqb-true _ 0 t) in
     let q = or-none (bitAnd m (m / 256)) k (p .0) in
-    plain-squeezed (omega arith) (c .controls .ensures (p .1)) (rw (x .spaces .ensures) at (q .0))
-    (unmarked (x .before .args .w) (x .before .args .space) (x .spaces .ensures) (c .before .first-mark .ensures) (q .1))
+    let printed = c .controls .ensures (p .1) in (
+      plain-squeezed (omega arith) printed (rw (x .spaces .ensures) at (q .0))
+          (unmarked (x .before .args .w) (x .before .args .space) (x .spaces .ensures) (c .before .first-mark .ensures) (q .1)),
+      printed,
+    )
 
 pub is-squeezed-spec : {M : Type 1} → statement M
 is-squeezed-spec =
