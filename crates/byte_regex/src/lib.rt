@@ -1,4 +1,6 @@
 // Regular expressions as tables of steps: do the steps from one on hold at a place of a text?
+#![tactic(auto)]
+
 ghost use Rattle.std.specs.Prelude.{◌≡◌, ◌+◌, ◌≤◌, ◌<◌, get_or, length};
 ghost use Rattle.common.specs.Bytes.{length_limit};
 ghost use Rattle.byte_regex.specs.Regex.{between, in_class, is_dash, is_hex_digit, lower};
@@ -8,7 +10,7 @@ ghost use Rattle.byte_regex.specs.Meaning.{blocked_of, class_of, holds, move_of,
 pub mod theorems;
 
 // Where a step leads.
-#[derive(Drop)]
+#[derive(Clone, Copy)]
 enum Move {
     // the pattern fits
     Pass,

@@ -1,6 +1,8 @@
 // Runs `text` and `utf8` over boundary inputs. A line for each input: its bytes; whether they are UTF-8; the length
 // without blanks at the end; the trimmed bytes; then `collapse` and `escape` into a buffer of 0xEE that is exactly
 // as long as the need, one shorter and three longer: the number, the second number, the length and the buffer.
+#![tactic(auto)]
+
 use common::Written;
 use libc::STDOUT_FILENO;
 

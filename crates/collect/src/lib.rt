@@ -1,11 +1,13 @@
 // `collect` of html2text.rs: the entry that a visit to a row opens, and what the visit adds to the text of the open one.
+#![tactic(auto)]
+
 pub mod added;
 pub mod entry;
 pub mod tests;
 
 // A row at its beginning or at its end: its number, the number of its tag, its first attribute line and where its value lies; whether it
 // has children, and its depth below the root.
-#[derive(Drop)]
+#[derive(Clone, Copy)]
 pub struct Visit {
     pub row: usize,
     pub first: usize,

@@ -1,4 +1,6 @@
 // Byte strings: stored into a lent buffer, and compared; an answer in numbers.
+#![tactic(auto)]
+
 ghost use Rattle.std.specs.Prelude.{◌++◌, ◌≡◌, ◌+◌, ◌-◌, ◌<◌, ◌≤◌, drop, length, replicate, take};
 ghost use Rattle.common.specs.Answer.{accepted, refused};
 ghost use Rattle.common.specs.Bytes.{same};
@@ -7,7 +9,7 @@ ghost use Rattle.common.specs.Word.{word_at};
 
 // What a call says in document 01's numbers; C reads it as it stands.
 #[repr(C)]
-#[derive(Drop)]
+#[derive(Clone, Copy)]
 pub struct Answer {
     pub number: usize,
     pub second: usize,
@@ -82,7 +84,7 @@ impl Answer {
 }
 
 // A text of so many bytes is written, or the lent buffer is shorter than the need.
-#[derive(Drop)]
+#[derive(Clone, Copy)]
 pub enum Written {
     Text(usize),
     TooShort(usize),

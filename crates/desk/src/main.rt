@@ -1,4 +1,6 @@
 // The program: an option line and a sheet from standard input; the answer's numbers and its text to standard output.
+#![tactic(auto)]
+
 use libc::{STDIN_FILENO, STDOUT_FILENO};
 use printing::{LONGEST, ROOM, print};
 

@@ -1,4 +1,6 @@
 // Which rows are main content (`is_main_content` of filters.rs).
+#![tactic(auto)]
+
 pub mod attributes;
 pub mod classes;
 pub mod clusters;

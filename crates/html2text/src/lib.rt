@@ -1,4 +1,6 @@
 // The types of an extraction, and what the definitions promise.
+#![tactic(auto)]
+
 pub mod theorems;
 
 use sheet::verdict::Verdict;
@@ -9,7 +11,7 @@ pub const MOST_LEVELS: usize = 1024;
 pub const MOST_OPEN_ROWS: usize = 1024;
 
 // `ExtractNode` of html2text.rs, with the number of its tag, and without its text.
-#[derive(Drop)]
+#[derive(Clone, Copy)]
 pub struct ExtractNode {
     pub depth: usize,
     pub pre_depth: usize,
@@ -24,7 +26,7 @@ pub struct ExtractNode {
 
 // How the text of an entry is shown, piece by piece: of a cell's end nothing; its blanks collapsed, and escaped, where so; `empty`: nothing
 // was shown yet; `space`: a blank stands before the next byte, or counts as if it did.
-#[derive(Drop)]
+#[derive(Clone, Copy)]
 pub struct Showing {
     pub dropped: bool,
     pub squeeze: bool,
@@ -35,7 +37,7 @@ pub struct Showing {
 
 // What an extraction answers: a text's visits and length; a sheet that is refused; the line of the node whose list level or open
 // row would be one too many; the need of a buffer that is too short.
-#[derive(Drop)]
+#[derive(Clone, Copy)]
 pub enum Extraction {
     Text { visits: usize, len: usize },
     Refused(Verdict),

@@ -1,5 +1,7 @@
 // Which rows the walk leaves out, decided once a row. What stands below a row that is left out is passed over. The last row at each depth
 // is kept in `stack`, so that a row's parents are at hand when it is decided.
+#![tactic(auto)]
+
 ghost use Rattle.std.specs.Prelude.{true, not, ◌||◌, ◌≡◌, ◌<◌, get_or, length, set};
 ghost use Rattle.filters.specs.Classes.{Tables};
 ghost use Rattle.filters.specs.Filters.{is_main_content};

@@ -1,4 +1,6 @@
 // The entry points for other languages: each answer in document 01's numbers. A slice is a pointer and a length.
+#![tactic(auto)]
+
 ghost use Rattle.std.specs.Prelude.{◌≡◌, length};
 ghost use Rattle.common.specs.Answer.{out_after, refused, written_in};
 ghost use Rattle.common.specs.Refusals.{wrong_options};

@@ -12,14 +12,14 @@ use sheet::line::{Layout, Row};
 use sheet::read::{depth_at, part, row_at};
 use text::{collapsed_from, is_space};
 
-#[derive(Drop)]
+#[derive(Clone, Copy)]
 pub struct Counts {
     pub text: usize,
     pub links: usize,
 }
 
 // The counts of the rows so far. space: the text ends in a blank. low: of the links that are open, those at this depth or deeper have no text yet.
-#[derive(Drop)]
+#[derive(Clone, Copy)]
 pub struct Counting {
     pub text: usize,
     pub links: usize,

@@ -1,4 +1,6 @@
 // The link measure of a row, and the rules on it.
+#![tactic(auto)]
+
 pub mod cluster;
 pub mod counts;
 pub mod questions;
@@ -9,13 +11,13 @@ ghost use Rattle.links.specs.Links.{exceeds, fifth_of500, fifth_of_any, is_too_l
 ghost use Rattle.quotient.specs.Quotient.{quotient};
 
 // A ratio and a length limit; limit 0 is none.
-#[derive(Drop)]
+#[derive(Clone, Copy)]
 pub struct Rule {
     pub ratio: f64,
     pub limit: usize,
 }
 
-#[derive(Drop)]
+#[derive(Clone, Copy)]
 pub enum Measure {
     NoText,
     TooLong,

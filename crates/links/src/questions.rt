@@ -7,7 +7,7 @@ use crate::{Measure, Rule};
 use sheet::verdict::Verdict;
 use tree::questions::{Asked, ask};
 
-#[derive(Drop)]
+#[derive(Clone, Copy)]
 pub enum MeasureAnswer {
     Measured(Measure),
     NoElement(usize),

@@ -1,4 +1,6 @@
 // Marks by name: skip is set on the rows below the root whose names `extract_plain_text` of html2text.rs takes out.
+#![tactic(auto)]
+
 ghost use Rattle.std.specs.Prelude.{cond, ◌≡◌, ◌<◌};
 ghost use Rattle.sheet.specs.Notes.{Lined};
 ghost use Rattle.sheet.specs.Verdict.{verdict};
@@ -19,7 +21,7 @@ pub mod names;
 pub mod theorems;
 
 // How many marks were set, or why the sheet is refused.
-#[derive(Drop)]
+#[derive(Clone, Copy)]
 pub enum Marked {
     Marks(usize),
     Refused(Verdict),

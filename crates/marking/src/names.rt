@@ -10,7 +10,7 @@ use options::ExtractOptions;
 use tags::pack;
 
 // The list that a name stands in.
-#[derive(Drop)]
+#[derive(Clone, Copy)]
 pub enum SkipList {
     Always,
     Media,

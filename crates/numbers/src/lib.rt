@@ -1,4 +1,6 @@
 // Each answer in document 01's numbers, as the definitions `numbers` have them.
+#![tactic(auto)]
+
 ghost use Rattle.std.specs.Prelude.{◌≡◌};
 ghost use Rattle.common.specs.Answer as common;
 ghost use Rattle.html2text.specs.Extract as html2text;

@@ -10,7 +10,7 @@ use tree::attributes::AttributeAnswer;
 
 // An attribute's range in the pool: present is 1 where there is one, and its length is the answer's.
 #[repr(C)]
-#[derive(Drop)]
+#[derive(Clone, Copy)]
 pub struct Range {
     pub answer: Answer,
     pub present: usize,
@@ -19,7 +19,7 @@ pub struct Range {
 
 // The link measure of a row: exceeds is 1 where the share exceeds the rule's ratio, and share is 0 where there is none.
 #[repr(C)]
-#[derive(Drop)]
+#[derive(Clone, Copy)]
 pub struct LinkMeasure {
     pub answer: Answer,
     pub exceeds: usize,

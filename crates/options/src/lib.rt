@@ -1,11 +1,13 @@
 // The options of an extraction (`ExtractOptions` of html2text.rs), without those that only shape selectors, and our icons and
 // missing_alt; and the line that names them.
+#![tactic(auto)]
+
 pub mod line;
 
 ghost use Rattle.std.specs.Prelude.{◌≡◌};
 ghost use Rattle.options.specs.Options.{is_basic, is_minimal_html, is_off, standing};
 
-#[derive(Drop)]
+#[derive(Clone, Copy)]
 pub enum Formatting {
     Off,
     Basic,
@@ -45,7 +47,7 @@ impl Formatting {
 }
 
 // `icons`: false as the Rust, true private. `missing_alt`: whether a word stands for an alt that is absent.
-#[derive(Drop)]
+#[derive(Clone, Copy)]
 pub struct ExtractOptions {
     pub formatting: Formatting,
     pub main_content: bool,

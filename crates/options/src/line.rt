@@ -7,7 +7,7 @@ use crate::{ExtractOptions, Formatting};
 // The digits and LF.
 pub const LENGTH: usize = 12;
 
-#[derive(Drop)]
+#[derive(Clone, Copy)]
 pub enum OptionLine {
     Options(ExtractOptions),
     Wrong,

@@ -1,4 +1,6 @@
 // The regexes of filters.rs: is one of them found in a text?
+#![tactic(auto)]
+
 ghost use Rattle.std.specs.Prelude.{true, ◌≡◌, ◌+◌, ◌*◌, ◌≤◌, ◌<◌, drop, length};
 ghost use Rattle.common.specs.Bytes.{length_limit};
 ghost use Rattle.byte_regex.specs.Joined.{joined};
@@ -63,7 +65,7 @@ pub const OTHER_JUNK_CLS: usize = 20;
 // The greatest of them.
 const LAST: usize = OTHER_JUNK_CLS;
 
-#[derive(Drop)]
+#[derive(Clone, Copy)]
 pub enum Matched {
     Yes,
     No,

@@ -1,4 +1,6 @@
 // What the program prints for an input: a line of numbers, and a text behind it.
+#![tactic(auto)]
+
 pub mod theorems;
 
 ghost use Rattle.std.specs.Prelude.{[], ◌∷◌, ◌++◌, ◌≡◌, ◌+◌, ◌≤◌, length};

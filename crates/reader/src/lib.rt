@@ -1,4 +1,6 @@
 // The entry points. Each comes back for every input with what its statement says; nothing is demanded of the caller.
+#![tactic(auto)]
+
 ghost use Rattle.std.specs.Prelude.{◌≡◌, length};
 ghost use Rattle.html2text.specs.Escapes.{read_in};
 ghost use Rattle.html2text.specs.Extract.{numbers};

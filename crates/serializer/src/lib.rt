@@ -1,4 +1,6 @@
 // One step of `serialize`, over numbers and lent arrays, its text piece by piece: it is written, or only measured.
+#![tactic(auto)]
+
 mod html;
 mod lists;
 mod margins;
@@ -16,7 +18,7 @@ use writer::Writer;
 
 // The state of `serialize`. `numbering` and `row_has_cell` are lent; their first `depth` and `rows` elements are in use. prefix: what stands
 // before an item's text, 0 nothing, 1 a bullet, k + 1 the number k; bullet: 1 where `bullet`. Words alone, so that a copy has no gaps.
-#[derive(Drop)]
+#[derive(Clone, Copy)]
 pub struct Serializer {
     pub writer: Writer,
     pub depth: usize,
@@ -28,7 +30,7 @@ pub struct Serializer {
 }
 
 // Behind all of a step but the text, and how the text is shown.
-#[derive(Drop)]
+#[derive(Clone, Copy)]
 pub struct Begun {
     pub serializer: Serializer,
     pub showing: Showing,
@@ -36,7 +38,7 @@ pub struct Begun {
 
 // Along an entry: the state with what is known of its text; how more of it is shown; the length of its text before it is shortened, and
 // the greatest such length so far, both kept where nothing is written; and how many bytes of escaped texts were read.
-#[derive(Drop)]
+#[derive(Clone, Copy)]
 pub struct Progress {
     pub serializer: Serializer,
     pub len: usize,

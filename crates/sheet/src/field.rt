@@ -4,7 +4,7 @@ ghost use Rattle.sheet.specs.Columns.{Value, columns_from, field_of, finish};
 ghost use Rattle.sheet.specs.Reading.{Spaces, in_eight};
 
 // What columns hold.
-#[derive(Drop)]
+#[derive(Clone, Copy)]
 pub enum Field {
     Number(usize),
     Bad,

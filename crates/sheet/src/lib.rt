@@ -1,4 +1,6 @@
 // The tree sheet: numbers in columns, lines, what is wrong with a sheet, and the readers of an accepted one.
+#![tactic(auto)]
+
 pub mod field;
 pub mod limits;
 pub mod line;

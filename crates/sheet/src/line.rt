@@ -5,7 +5,7 @@ ghost use Rattle.sheet.specs.Lines.{four_of, node_line_of, row_of, short_line_of
 use crate::field::{Field, read_eight, read_field};
 
 // What the header says, and the width of a number.
-#[derive(Drop)]
+#[derive(Clone, Copy)]
 pub struct Layout {
     pub width: usize,
     pub nodes: usize,
@@ -15,7 +15,7 @@ pub struct Layout {
 }
 
 // The numbers of a node line.
-#[derive(Drop)]
+#[derive(Clone, Copy)]
 pub struct Row {
     pub depth: usize,
     pub kind: usize,
@@ -28,7 +28,7 @@ pub struct Row {
 }
 
 // The numbers of an attribute line.
-#[derive(Drop)]
+#[derive(Clone, Copy)]
 pub struct Attribute {
     pub name_at: usize,
     pub name_len: usize,
@@ -37,7 +37,7 @@ pub struct Attribute {
 }
 
 // Four numbers in a row.
-#[derive(Drop)]
+#[derive(Clone, Copy)]
 pub struct Quad {
     pub first: usize,
     pub second: usize,
@@ -45,13 +45,13 @@ pub struct Quad {
     pub fourth: usize,
 }
 
-#[derive(Drop)]
+#[derive(Clone, Copy)]
 pub enum Four {
     Numbers(Quad),
     Bad,
 }
 
-#[derive(Drop)]
+#[derive(Clone, Copy)]
 pub enum NodeLine {
     Numbers(Row),
     Bad,

@@ -7,7 +7,7 @@ use crate::tests::{kind_right, note, ranges_right, texts_right, tree_right};
 use crate::verdict::Found;
 
 // Of each stage over the node lines the first that is not right, and the sum of the attribute counts.
-#[derive(Drop)]
+#[derive(Clone, Copy)]
 pub struct Notes {
     pub kind: Found,
     pub tree: Found,
@@ -16,7 +16,7 @@ pub struct Notes {
     pub counts: usize,
 }
 
-#[derive(Drop)]
+#[derive(Clone, Copy)]
 pub enum NodesRead {
     Noted(Notes),
     Bad(usize),
@@ -95,13 +95,13 @@ pub fn read_nodes(s: &[u8], l: Layout, whole: bool) -> NodesRead
 }
 
 // Of each stage over the attribute lines the first that is not right.
-#[derive(Drop)]
+#[derive(Clone, Copy)]
 pub struct AttributeNotes {
     pub range: Found,
     pub encoding: Found,
 }
 
-#[derive(Drop)]
+#[derive(Clone, Copy)]
 pub enum AttributesRead {
     Noted(AttributeNotes),
     Bad(usize),

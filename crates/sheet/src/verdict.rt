@@ -13,14 +13,14 @@ use crate::line::{Four, Layout, read_short_line};
 use crate::notes::{AttributeNotes, AttributesRead, NodesRead, Notes, read_attributes, read_nodes};
 
 // A row, or none.
-#[derive(Drop)]
+#[derive(Clone, Copy)]
 pub enum Found {
     At(usize),
     Nothing,
 }
 
 // A sheet with its layout, or what is wrong with it, with the line or the length that document 01 names.
-#[derive(Drop)]
+#[derive(Clone, Copy)]
 pub enum Verdict {
     Sheet(Layout),
     Length(usize),

@@ -1,4 +1,6 @@
 // Names of elements, and lists of words.
+#![tactic(auto)]
+
 ghost use Rattle.std.specs.Prelude.{◌≡◌, ◌≤◌, length};
 ghost use Rattle.tags.specs.Line.{WordAt};
 ghost use Rattle.tags.specs.Packed.{pack_of, tag_packed};

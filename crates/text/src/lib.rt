@@ -1,4 +1,6 @@
 // The functions on bytes of html2text.rs.
+#![tactic(auto)]
+
 pub mod theorems;
 
 ghost use Rattle.std.specs.Prelude.{◌≡◌, ◌+◌, ◌≤◌, drop, length};
@@ -9,7 +11,7 @@ ghost use Rattle.text.specs.Text.{collapse, collapse_from, escape, escaped, is_s
 use common::Written;
 
 // How many bytes a collapsed text has, and whether a blank is the last of them.
-#[derive(Drop)]
+#[derive(Clone, Copy)]
 pub struct Squeezed {
     pub len: usize,
     pub space: bool,

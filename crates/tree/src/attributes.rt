@@ -11,13 +11,13 @@ use sheet::read::{attribute_at, part, row_at};
 use sheet::verdict::Verdict;
 
 // Where the value of an attribute lies in the pool.
-#[derive(Drop)]
+#[derive(Clone, Copy)]
 pub enum AttributeAt {
     Absent,
     At { at: usize, len: usize },
 }
 
-#[derive(Drop)]
+#[derive(Clone, Copy)]
 pub enum AttributeAnswer {
     Absent,
     At { at: usize, len: usize },

@@ -12,7 +12,7 @@ use sheet::read::{depth_at, part, row_at};
 use sheet::verdict::Verdict;
 use text::{Squeezed, collapsed_from, collapsed_len};
 
-#[derive(Drop)]
+#[derive(Clone, Copy)]
 pub enum LengthAnswer {
     Length(usize),
     NoRow(usize),

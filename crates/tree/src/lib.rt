@@ -1,4 +1,6 @@
 // The DOM tree of an accepted sheet.
+#![tactic(auto)]
+
 pub mod attributes;
 pub mod content;
 pub mod questions;

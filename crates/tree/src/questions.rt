@@ -11,14 +11,14 @@ use sheet::read::row_at;
 use sheet::verdict::{Found, Verdict, check};
 
 // A row of a sheet.
-#[derive(Drop)]
+#[derive(Clone, Copy)]
 pub enum Lookup {
     There(Row),
     Missing,
 }
 
 // An accepted sheet's layout and the row that is asked for, or why there is no answer.
-#[derive(Drop)]
+#[derive(Clone, Copy)]
 pub enum Asked {
     Of(Layout, Row),
     NoRow(usize),
@@ -26,7 +26,7 @@ pub enum Asked {
 }
 
 // A row that stands by another in the tree; what the tree lacks is nothing.
-#[derive(Drop)]
+#[derive(Clone, Copy)]
 pub enum Relative {
     Row(usize),
     Nothing,

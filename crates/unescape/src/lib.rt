@@ -1,4 +1,6 @@
 // The inverse of `escape`: the four names become their characters, all else is copied.
+#![tactic(auto)]
+
 pub mod theorems;
 
 ghost use Rattle.std.specs.Prelude.{true, ◌≡◌, ◌≤◌, drop, length};
@@ -10,7 +12,7 @@ ghost use Rattle.unescape.specs.Inner.{FreeOf, NextAmpersand, measure, part_of};
 ghost use Rattle.unescape.specs.Unescape.{ampersand, entity, starts_with, unescape, unescaped};
 
 // So many bytes are written; or the ampersand at this offset starts none of the names; or the output is shorter than the need.
-#[derive(Drop)]
+#[derive(Clone, Copy)]
 pub enum Unescaped {
     Text(usize),
     NoEntity(usize),
@@ -18,7 +20,7 @@ pub enum Unescaped {
 }
 
 // What an ampersand starts: a character and its name's length, or the ampersand itself with length 1.
-#[derive(Drop)]
+#[derive(Clone, Copy)]
 struct Part {
     character: u8,
     len: usize,

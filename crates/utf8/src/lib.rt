@@ -1,4 +1,6 @@
 // Whether bytes are UTF-8 (RFC 3629).
+#![tactic(auto)]
+
 pub mod character;
 pub mod theorems;
 
@@ -8,7 +10,7 @@ ghost use Rattle.utf8.specs.State.{Ascii, Passed, ranges};
 ghost use Rattle.utf8.specs.Valid.{between, follow, valid, within};
 
 // What has to come before the next character: count octets, the first from low to high, the others tails.
-#[derive(Drop)]
+#[derive(Clone, Copy)]
 struct Expected {
     count: u8,
     low: u8,

@@ -1,4 +1,6 @@
 // The other text of a row: `node_format_visible_text` of serialize.rs, over a sheet.
+#![tactic(auto)]
+
 ghost use Rattle.std.specs.Prelude.{◌≡◌, ◌≤◌, ◌<◌, length};
 ghost use Rattle.sheet.specs.Accepted.{Accepted};
 ghost use Rattle.sheet.specs.Layout.{depths, most_depth};
@@ -24,7 +26,7 @@ pub mod theorems;
 mod white_space;
 
 // So many bytes are written; or the row is not there, the sheet is refused, or the output is shorter than the need.
-#[derive(Drop)]
+#[derive(Clone, Copy)]
 pub enum VisibleText {
     Text(usize),
     NoRow(usize),

@@ -1,4 +1,6 @@
 // The walk as `collect` sees it: the visit that a pass of the walk's loop makes, with its row's numbers from the columns.
+#![tactic(auto)]
+
 ghost use Rattle.std.specs.Prelude.{◌≡◌, ◌≤◌, ◌<◌, length};
 ghost use Rattle.visits.specs.Visiting.{Noted, Sees, WalkStands, passes_left, visit_of};
 
@@ -7,7 +9,7 @@ use sheet::line::Layout;
 use walk::cursor::{Next, Turn, Walk, advance};
 
 // A pass that visits a row, a pass at a row that is left out, or none.
-#[derive(Drop)]
+#[derive(Clone, Copy)]
 pub enum Seen {
     Visit(Visit, Walk),
     LeftOut(Walk),

@@ -5,7 +5,7 @@ ghost use Rattle.tree.specs.Rows.{open_rows, past_from, stands_at};
 ghost use Rattle.walk.specs.Turns.{Advances, ColumnRight, Fits, flagged, remaining, tree_at, turns, turns_left};
 
 // A pass of the walk's loop: a row begins, a row that has children ends, or a row is left out. Depths count from the root.
-#[derive(Drop)]
+#[derive(Clone, Copy)]
 pub enum Turn {
     Begin {
         row: usize,
@@ -20,7 +20,7 @@ pub enum Turn {
 }
 
 // Before the root, or below it: the root's depth, the next row, and how many rows are open.
-#[derive(Drop)]
+#[derive(Clone, Copy)]
 pub enum Walk {
     Root(usize),
     Below {
@@ -30,7 +30,7 @@ pub enum Walk {
     },
 }
 
-#[derive(Drop)]
+#[derive(Clone, Copy)]
 pub enum Next {
     Turn(Turn, Walk),
     Done,

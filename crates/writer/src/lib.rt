@@ -1,4 +1,6 @@
 // A text that is written into a lent buffer, or only measured.
+#![tactic(auto)]
+
 ghost use Rattle.std.specs.Prelude.{true, [], ◌∷◌, ◌≡◌, ◌+◌, ◌≤◌, ◌<◌, length, replicate};
 ghost use Rattle.common.specs.Puts.{Puts};
 ghost use Rattle.writer.specs.Digits.{digits};
@@ -10,7 +12,7 @@ pub mod texts;
 pub mod words;
 
 // The text's length, its length without the blanks at its end, and the greatest length that it ever had.
-#[derive(Drop)]
+#[derive(Clone, Copy)]
 pub struct Writer {
     pub len: usize,
     pub kept: usize,

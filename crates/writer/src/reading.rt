@@ -3,7 +3,7 @@ ghost use Rattle.std.specs.Prelude.{◌≡◌, ◌+◌, ◌<◌, ◌≤◌, get_
 ghost use Rattle.common.specs.Word.{word_at};
 
 // A byte, and how many were read with it.
-#[derive(Drop)]
+#[derive(Clone, Copy)]
 pub struct ByteRead {
     pub byte: u8,
     pub read: usize,
@@ -21,7 +21,7 @@ pub fn byte_at(s: &[u8], i: usize, read: usize) -> ByteRead
 }
 
 // Eight bytes as one number, the first the lowest, and how many were read with them.
-#[derive(Drop)]
+#[derive(Clone, Copy)]
 pub struct WordRead {
     pub word: usize,
     pub read: usize,

@@ -12,7 +12,7 @@ use crate::words::{is_plain, last_byte, store_word};
 use crate::{Writer, greater};
 
 // Along a text: the place past it, the place past the last of it that is no blank, whether a blank was read last, and how many bytes were.
-#[derive(Drop)]
+#[derive(Clone, Copy)]
 pub struct Places {
     pub past: usize,
     pub kept: usize,
@@ -21,7 +21,7 @@ pub struct Places {
 }
 
 // The first byte that is shown, where it stands, and how many bytes were read up to it. at: the text's length where none is.
-#[derive(Drop)]
+#[derive(Clone, Copy)]
 pub struct First {
     pub at: usize,
     pub read: usize,
@@ -29,7 +29,7 @@ pub struct First {
 }
 
 // Behind a text: the writer's numbers, whether a blank was read last, and how many bytes were read.
-#[derive(Drop)]
+#[derive(Clone, Copy)]
 pub struct Put {
     pub writer: Writer,
     pub read: usize,

@@ -1,4 +1,6 @@
 // A pass over the rows: `collect` and `serialize` as one, each piece of text shown as it is met, written or only measured.
+#![tactic(auto)]
+
 ghost use Rattle.std.specs.Prelude.{true, ◌≡◌, ◌<◌, length};
 ghost use Rattle.collect.specs.Entries.{opens_on};
 ghost use Rattle.html2text.specs.Extract.{most_levels, most_open_rows};
@@ -20,7 +22,7 @@ use walk::cursor::Walk;
 use writer::Writer;
 
 // Along a pass: the open entry's progress, and of its node what later visits look at. any: whether one is open.
-#[derive(Drop)]
+#[derive(Clone, Copy)]
 pub struct OpenEntry {
     pub progress: Progress,
     pub depth: usize,
@@ -31,7 +33,7 @@ pub struct OpenEntry {
 
 // Of a whole pass: the longest text of an entry, where nothing is written, the visits, the bytes of escaped texts that were read and the
 // text's lengths; or the line of the first entry that would pass a limit.
-#[derive(Drop)]
+#[derive(Clone, Copy)]
 pub enum Passed {
     Text {
         need: usize,
