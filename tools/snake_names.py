@@ -15,6 +15,7 @@ import sys
 
 NAME = r'[^\s(){}\[\].;,@"«»]+'
 CHAIN = re.compile(rf"(?<![^\s(){{}}\[\],;@]){NAME}(?:\.{NAME})*")
+LABELS_BEHIND = re.compile(rf"(?<=\))(?:\.{NAME})+")
 USE = re.compile(r"(?m)^([ \t]*(?:pub )?(?:unfoldable )?use )([^\s{]+?)(?:\.\{([^{}]*)\}| as (\S+))?[ \t]*$")
 GHOST_USE = re.compile(r"(?m)^([ \t]*(?:pub )?ghost use )([^\s{;]+?)(?:\.\{([^{}]*)\}| as ([^\s;]+))?;")
 STRING = re.compile(r'"(?:[^"\\\n]|\\.)*"')
@@ -75,6 +76,10 @@ class Turner:
                 self.turned[old] = now
         return ".".join(new)
 
+    def plain(self, text, outside, aliases):
+        text = CHAIN.sub(lambda m: self.chain(m[0], outside, aliases), text)
+        return LABELS_BEHIND.sub(lambda m: ".".join(snake(w, True) for w in m[0].split(".")), text)
+
     def code(self, text, outside, aliases):
         """Turns what stands outside strings and comments."""
         kept = [(m.start(), m.end()) for m in STRING.finditer(text)]
@@ -82,10 +87,10 @@ class Turner:
         kept = [it for it in kept if not any(a <= it[0] < b for a, b in said)]
         out, at = [], 0
         for a, b in sorted(kept + said):
-            out.append(CHAIN.sub(lambda m: self.chain(m[0], outside, aliases), text[at:a]))
+            out.append(self.plain(text[at:a], outside, aliases))
             out.append(text[a:b])
             at = b
-        out.append(CHAIN.sub(lambda m: self.chain(m[0], outside, aliases), text[at:]))
+        out.append(self.plain(text[at:], outside, aliases))
         return "".join(out)
 
     def outside_of(self, text, use):

@@ -20,6 +20,6 @@ rows_after n rows = recounted (is_tr n.tag) n.end rows
 -- what is to be shown of a step, whatever the text
 pub record StepLevels (f : Formatting) (bullets : Bool) (n : ExtractNode) (text : Bytes) (S : State) : Type 0 where
   pub depth : (step f bullets n text S).depth ≡ depth_after f n S.depth
-  pub rows : length (step f bullets n text S).rowHasCell ≡ rows_after n (length S.row_has_cell)
+  pub rows : length (step f bullets n text S).row_has_cell ≡ rows_after n (length S.row_has_cell)
   -- `numbering` has a number for each list level
   pub numbering : S.depth ≡ length S.numbering → (step f bullets n text S).depth ≡ length (step f bullets n text S).numbering

@@ -152,7 +152,7 @@ module _ (o : ExtractOptions) (noscript : Bool) {s : Bytes} {l : Layout} (a : De
   descendant : Descendant (parent_of (depths s l)) l.root i ↔ ((l.root < i) × (i < past_of (depths s l) l.root))
   descendant =
       let tree = sheet_is_tree s l a.accepted in
-      (tree.tree.row l.root (omega (arith, tree.rows, a.root_there))).descendant-is i
+      (tree.tree.row l.root (omega (arith, tree.rows, a.root_there))).descendant_is i
 
   past_same : past_of (depths s l) l.root ≡ past_of (depths_in x) x.root
   past_same = ap₂ past_of columns_same (sym a.root)

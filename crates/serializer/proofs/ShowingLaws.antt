@@ -117,7 +117,7 @@ module _ {f : Formatting} {bullets write : Bool} where
     shows_then {r} {out₂} {b} e =
         record {
           works = out_as (append_is f bullets p.showing a b) (out_then d.works (rw d.showing at e.works));
-          showing = e.showing ∙ ap (λ (w : Showing). showing_after w b) d.showing ∙ sym ((shown_in_pieces f bullets).after-append p.showing a b);
+          showing = e.showing ∙ ap (λ (w : Showing). showing_after w b) d.showing ∙ sym ((shown_in_pieces f bullets).after_append p.showing a b);
           len = λ t. omega (arith, d.len t, e.len t, length-append a b);
           need = λ t.
               omega (arith, d.len t, d.need t, e.need t, length-append a b, greater_max p.need (p.len + length a), greater_max q.need (q.len + length b), greater_max p.need (p.len + length (a ++ b)));

@@ -78,7 +78,7 @@ module _ (s : Bytes) (l : Layout) where
 
   pub depth_of : (i : ℕ) → node_tree s l i ≡ true → (row_at s l i).depth ≤ most_depth
   depth_of zero e = omega (arith, (body_of e).depth)
-  depth_of (suc i) e = (later s l i e).most-depth
+  depth_of (suc i) e = (later s l i e).depth_within
 
   parent_of_law : (o : Option ℕ) → is_element (row_at s l) o ≡ true → (j : ℕ) × (o ≡ some j) × ((row_at s l j).kind ≡ 1)
   parent_of_law none e = absurd_test e refl

@@ -33,7 +33,7 @@ below_eight p q r s p' q' r' s' = some p (some q (some r (some s (below_four p' 
 module _ {d : Decoded} (r : Right d) where
   pub depth_small : (i : ℕ) → i < length d.rows → (row_in d i).depth ≤ most_depth
   depth_small zero h = omega (arith, r.body_depth)
-  depth_small (suc i) h = (r.later i h).most-depth
+  depth_small (suc i) h = (r.later i h).depth_within
 
   pub right_fits : {w : ℕ} → 5 ≤ w → w ≤ 10 → length d.pool < 10 ^ w → Fits w d
   right_fits {w} wide most h =

@@ -24,7 +24,7 @@ module _ (s : Bytes) (l : Layout) where
 
   pub depth_small : Accepted s l → (i : ℕ) → i < l.nodes → (row_at s l i).depth ≤ most_depth
   depth_small a zero h = omega (arith, a.body_depth)
-  depth_small a (suc i) h = (a.later i h).most-depth
+  depth_small a (suc i) h = (a.later i h).depth_within
 
   -- the scans that begin behind row i, by its depth
   pub first_child_from : {x : ℕ} (i : ℕ) → i < l.nodes → x ≡ (row_at s l i).depth → scan_of (x + 1) (i + 1) (drop (i + 1) (depths s l)) ≡ first_child_of (depths s l) i

@@ -19,7 +19,7 @@ module _ {s : Bytes} {l : Layout} (accepted : Accepted s l) where
       record {
         row = omega (arith, rows, accepted.sized.some_node);
         root = depths_at s l 0 accepted.sized.some_node ∙ accepted.body_depth;
-        later = λ i h. let k : suc i < l.nodes = omega (arith, rows) in omega (arith, depths_at s l (suc i) k, (accepted.later i k).some-depth);
+        later = λ i h. let k : suc i < l.nodes = omega (arith, rows) in omega (arith, depths_at s l (suc i) k, (accepted.later i k).some_depth);
         step = λ i h.
             let k : suc i < l.nodes = omega (arith, rows) in
             omega (arith, depths_at s l (suc i) k, depths_at s l i (omega arith), (accepted.later i k).no_jump);

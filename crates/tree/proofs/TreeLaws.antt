@@ -61,6 +61,6 @@ pub text_at_place : (depths : List ℕ) → WellFormed depths → (node_of : ℕ
     → Place none (forest_of depths) q j children rest → (node_of j).kind ≡ element → text_content node_of j children ≡ text_below node_of depths (get_or depths j 0) (j + 1)
 text_at_place depths w node_of q j children rest v e =
     text_of_element node_of j children e
-    ∙ ap (descendant_text node_of) (place_is depths q j children rest v).children-are
+    ∙ ap (descendant_text node_of) (place_is depths q j children rest v).children_are
     ∙ ap (concatenated node_of) (descendants depths w j)
     ∙ simp add-one

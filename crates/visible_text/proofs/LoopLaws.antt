@@ -42,10 +42,10 @@ module _ (depths : List ℕ) where
     root_own : (root : ℕ) → root < length depths → Own (children_of depths root)
     root_own root h =
         let s = each_row depths w root h in
-        rw (← (place_is depths s.parent root s.children s.rest s.place).children-are)
+        rw (← (place_is depths s.parent root s.children s.rest s.place).children_are)
         (own (some root) s.children
         (λ q i cs rs v.
-        (place_is depths q i cs rs (place_below s.parent root s.children s.rest q i cs rs none _ s.place v)).children-are))
+        (place_is depths q i cs rs (place_below s.parent root s.children s.rest q i cs rs none _ s.place v)).children_are))
 
     depth_most : (i : ℕ) → i < length depths → get_or depths i 0 ≤ i
     depth_most zero h = omega (arith, w.root)

@@ -97,10 +97,10 @@ module _
   events_of_passes =
       ap (events_in s l) passes_are
       ∙ events_same (node_at s l) (λ i. false) hidden (turns (left_out (node_at s l) hidden) 0 (tree_of (page_of s l)))
-      ∙ sym (turns_of_walk (node_at s l) hidden 0 (tree_of (page_of s l))).events-are
+      ∙ sym (turns_of_walk (node_at s l) hidden 0 (tree_of (page_of s l))).events_are
 
   pub visits_of_passes : length (passes_of s l left) ≡ visits (node_at s l) hidden (tree_of (page_of s l))
-  visits_of_passes = ap length passes_are ∙ sym (turns_of_walk (node_at s l) hidden 0 (tree_of (page_of s l))).visits-are
+  visits_of_passes = ap length passes_are ∙ sym (turns_of_walk (node_at s l) hidden 0 (tree_of (page_of s l))).visits_are
 
   pub walked : (o : ExtractOptions) → Accepted s l → l.nodes ≤ length left → Walked s l o left
   walked o accepted h =

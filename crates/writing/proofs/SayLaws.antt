@@ -99,7 +99,7 @@ module _ {o : ExtractOptions} {write : Bool} {under : Bytes} {p : OpenEntry} {a 
               run = w.run;
               is = d.showing
                   ∙ ap (λ (x : Showing). showing_after x piece) w.is
-                  ∙ sym ((shown_in_pieces o.formatting o.list_bullets).after-append first F.note.text piece)
+                  ∙ sym ((shown_in_pieces o.formatting o.list_bullets).after_append first F.note.text piece)
                   ∙ ap (showing_after first) (sym text);
             };
       }

@@ -19,7 +19,7 @@ mark_rows_spec =
     invariant_loop
     decreases_loop
     (λ c κs. let a = decodes c.before.before.requires in (a.lined, a.root_there))
-    (λ c. omega (arith, (decodes c.before.before.before.before.requires).root-there))
+    (λ c. omega (arith, (decodes c.before.before.before.before.requires).root_there))
     (λ c. marking_start _ _ _ _ (decodes c.before.before.before.before.requires))
     (λ c κs.
     let test = c.before in

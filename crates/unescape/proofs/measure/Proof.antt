@@ -23,7 +23,7 @@ returns c =
 sub_n : tie.Need-overflow-sub-n invariant_loop decreases_loop
 sub_n c =
     let x = c.before.before.before in
-    (measuring_stands x.before.before.loop.invariant x.before.loop_test.true x.part_at.ensures).not-empty
+    (measuring_stands x.before.before.loop.invariant x.before.loop_test.true x.part_at.ensures).not_empty
 
 sub_n_2 : tie.Need-overflow-sub-n-2 invariant_loop decreases_loop
 sub_n_2 c =

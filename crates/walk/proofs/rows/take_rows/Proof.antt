@@ -71,13 +71,13 @@ mul_depths : tie.Need-overflow-mul-depths invariant_loop decreases_loop
 mul_depths c = omega (arith, c.before.before.before.before.before.loop_test.true, c.before.before.before.before.before.before.before.before.before.before.before.before.before.before.before.requires.0.0.nodes)
 
 slice_write_depths : tie.Need-slice-write-depths invariant_loop decreases_loop
-slice_write_depths c = (room_at c.before.before.before.before.before.before.loop.invariant.reading c.before.before.before.before.before.before.before.before.before.before.before.before.before.before.before.requires.1 c.before.before.before.before.before.loop_test.true).depths-long
+slice_write_depths c = (room_at c.before.before.before.before.before.before.loop.invariant.reading c.before.before.before.before.before.before.before.before.before.before.before.before.before.before.before.requires.1 c.before.before.before.before.before.loop_test.true).depths_long
 
 tag_in_requires : tie.Need-tag-in-requires invariant_loop decreases_loop
 tag_in_requires c κs = (pool_start_law c.before.before.before.before.before.before.before.before.before.before.before.before.before.before.before.requires.0.0, c.before.before.before.before.before.before.before.before.before.before.before.before.before.before.before.requires.0.0, (taken_facts c.before.before.before.before.before.before.loop.invariant c.before.before.before.before.before.loop_test.true (sym c.before.before.before.before.row_in.ensures ∙ c.before.before.r.given.1) c.before.before.before.before.before.before.before.before.before.before.before.before.before.before.before.requires.0.0).name)
 
 slice_write_tags : tie.Need-slice-write-tags invariant_loop decreases_loop
-slice_write_tags c = (room_at c.before.before.before.before.before.before.before.loop.invariant.reading c.before.before.before.before.before.before.before.before.before.before.before.before.before.before.before.before.requires.1 c.before.before.before.before.before.before.loop_test.true).tags-long
+slice_write_tags c = (room_at c.before.before.before.before.before.before.before.loop.invariant.reading c.before.before.before.before.before.before.before.before.before.before.before.before.before.before.before.before.requires.1 c.before.before.before.before.before.before.loop_test.true).tags_long
 
 cast_attributes : tie.Need-overflow-cast-attributes invariant_loop decreases_loop
 cast_attributes c = omega (arith, c.before.before.before.before.before.before.before.loop.invariant.few, c.before.before.before.before.before.before.before.before.before.before.before.before.before.before.before.before.requires.0.0.attributes)
@@ -86,7 +86,7 @@ mul_attributes : tie.Need-overflow-mul-attributes invariant_loop decreases_loop
 mul_attributes c = omega (arith, c.before.before.before.before.before.before.loop_test.true, c.before.before.before.before.before.before.before.before.before.before.before.before.before.before.before.before.requires.0.0.nodes)
 
 slice_write_attributes : tie.Need-slice-write-attributes invariant_loop decreases_loop
-slice_write_attributes c = (room_at c.before.before.before.before.before.before.before.loop.invariant.reading c.before.before.before.before.before.before.before.before.before.before.before.before.before.before.before.before.requires.1 c.before.before.before.before.before.before.loop_test.true).attributes-long
+slice_write_attributes c = (room_at c.before.before.before.before.before.before.before.loop.invariant.reading c.before.before.before.before.before.before.before.before.before.before.before.before.before.before.before.before.requires.1 c.before.before.before.before.before.before.loop_test.true).attributes_long
 
 cast_values : tie.Need-overflow-cast-values invariant_loop decreases_loop
 cast_values c = omega (arith, (taken_facts c.before.before.before.before.before.before.before.before.loop.invariant c.before.before.before.before.before.before.before.loop_test.true (sym c.before.before.before.before.before.before.row_in.ensures ∙ c.before.before.before.before.r.given.1) c.before.before.before.before.before.before.before.before.before.before.before.before.before.before.before.before.before.requires.0.0).value, c.before.before.before.before.before.before.before.before.before.before.before.before.before.before.before.before.before.requires.0.0.pool)
@@ -95,7 +95,7 @@ mul_values : tie.Need-overflow-mul-values invariant_loop decreases_loop
 mul_values c = omega (arith, c.before.before.before.before.before.before.before.loop_test.true, c.before.before.before.before.before.before.before.before.before.before.before.before.before.before.before.before.before.requires.0.0.nodes)
 
 slice_write_values : tie.Need-slice-write-values invariant_loop decreases_loop
-slice_write_values c = (room_at c.before.before.before.before.before.before.before.before.loop.invariant.reading c.before.before.before.before.before.before.before.before.before.before.before.before.before.before.before.before.before.requires.1 c.before.before.before.before.before.before.before.loop_test.true).values-long
+slice_write_values c = (room_at c.before.before.before.before.before.before.before.before.loop.invariant.reading c.before.before.before.before.before.before.before.before.before.before.before.before.before.before.before.before.before.requires.1 c.before.before.before.before.before.before.before.loop_test.true).values_long
 
 cast_lengths : tie.Need-overflow-cast-lengths invariant_loop decreases_loop
 cast_lengths c = omega (arith, (taken_facts c.before.before.before.before.before.before.before.before.before.loop.invariant c.before.before.before.before.before.before.before.before.loop_test.true (sym c.before.before.before.before.before.before.before.row_in.ensures ∙ c.before.before.before.before.before.r.given.1) c.before.before.before.before.before.before.before.before.before.before.before.before.before.before.before.before.before.before.requires.0.0).value, c.before.before.before.before.before.before.before.before.before.before.before.before.before.before.before.before.before.before.requires.0.0.pool)
@@ -104,13 +104,13 @@ mul_lengths : tie.Need-overflow-mul-lengths invariant_loop decreases_loop
 mul_lengths c = omega (arith, c.before.before.before.before.before.before.before.before.loop_test.true, c.before.before.before.before.before.before.before.before.before.before.before.before.before.before.before.before.before.before.requires.0.0.nodes)
 
 slice_write_lengths : tie.Need-slice-write-lengths invariant_loop decreases_loop
-slice_write_lengths c = (room_at c.before.before.before.before.before.before.before.before.before.loop.invariant.reading c.before.before.before.before.before.before.before.before.before.before.before.before.before.before.before.before.before.before.requires.1 c.before.before.before.before.before.before.before.before.loop_test.true).lengths-long
+slice_write_lengths c = (room_at c.before.before.before.before.before.before.before.before.before.loop.invariant.reading c.before.before.before.before.before.before.before.before.before.before.before.before.before.before.before.before.before.before.requires.1 c.before.before.before.before.before.before.before.before.loop_test.true).lengths_long
 
 comment_or_marked_requires : tie.Need-comment-or-marked-requires invariant_loop decreases_loop
 comment_or_marked_requires c κs = search rules
 
 slice_write_left : tie.Need-slice-write-left invariant_loop decreases_loop
-slice_write_left c = (room_at c.before.before.before.before.before.before.before.before.before.before.loop.invariant.reading c.before.before.before.before.before.before.before.before.before.before.before.before.before.before.before.before.before.before.before.requires.1 c.before.before.before.before.before.before.before.before.before.loop_test.true).left-long
+slice_write_left c = (room_at c.before.before.before.before.before.before.before.before.before.before.loop.invariant.reading c.before.before.before.before.before.before.before.before.before.before.before.before.before.before.before.before.before.before.before.requires.1 c.before.before.before.before.before.before.before.before.before.loop_test.true).left_long
 
 add_at_2 : tie.Need-overflow-add-at-2 invariant_loop decreases_loop
 add_at_2 c = omega (arith, taking_small c.before.before.before.before.before.before.before.before.before.before.loop.invariant c.before.before.before.before.before.before.before.before.before.loop_test.true c.before.before.before.before.before.before.before.before.before.before.before.before.before.before.before.before.before.before.before.requires.0.0)
