@@ -10,7 +10,7 @@ use Rattle.common.specs.Bytes.{Bytes}
 use Rattle.common.proofs.Choice.{chosen, other, absurd_test}
 use Rattle.byte_regex.specs.Regex.{in_class}
 use Rattle.byte_regex.specs.Steps.{Step}
-use Rattle.byte_regex.specs.Meaning.{class_of, step_of_kind, step_of, blocked_of, free_move_law, move_of}
+use Rattle.byte_regex.specs.Meaning.{class_of, step_of_kind, step_of, blocked_of, free_move, move_of}
 use Rattle.byte_regex.specs.declared.Move.{Move}
 use Rattle.byte_regex.specs.declared.Move.TheVariants.{Pass, Fail, Go, Try}
 
@@ -37,8 +37,8 @@ module _ (s : Bytes) (at : ℕ) where
 
   module _ (next : Step) (i : ℕ) where
     -- kinds 4 and 5
-    edge_kind : (kind a : ℕ) → 4 ≤ kind → kind < 6 → Go (i + 1) at ≡ free_move_law (step_of_kind kind a) next i s at
-    unfolding free_move_law
+    edge_kind : (kind a : ℕ) → 4 ≤ kind → kind < 6 → Go (i + 1) at ≡ free_move (step_of_kind kind a) next i s at
+    unfolding free_move
     edge_kind zero a h k = absurd (omega arith)
     edge_kind (suc zero) a h k = absurd (omega arith)
     edge_kind (suc (suc zero)) a h k = absurd (omega arith)
@@ -48,8 +48,8 @@ module _ (s : Bytes) (at : ℕ) where
     edge_kind (suc (suc (suc (suc (suc (suc n)))))) a h k = absurd (omega arith)
 
     -- kind 6
-    done_kind : (kind a : ℕ) → 6 ≤ kind → Pass ≡ free_move_law (step_of_kind kind a) next i s at
-    unfolding free_move_law
+    done_kind : (kind a : ℕ) → 6 ≤ kind → Pass ≡ free_move (step_of_kind kind a) next i s at
+    unfolding free_move
     done_kind zero a h = absurd (omega arith)
     done_kind (suc zero) a h = absurd (omega arith)
     done_kind (suc (suc zero)) a h = absurd (omega arith)
@@ -65,25 +65,25 @@ module _ (s : Bytes) (at : ℕ) where
 
       pub blocked_move : blocked_of (step_of code) s at ≡ true → Moves Fail
       unfolding move_of
-      blocked_move e = chosen (blocked_of (step_of code) s at) Fail (free_move_law (step_of code) next i s at) e
+      blocked_move e = chosen (blocked_of (step_of code) s at) Fail (free_move (step_of code) next i s at) e
 
       module _ (f : blocked_of (step_of code) s at ≡ false) where
-        free_move_law : (kind : ℕ) → code % 8 ≡ kind → Moves (free_move_law (step_of_kind kind (code / 8)) next i s at)
+        free_move_law : (kind : ℕ) → code % 8 ≡ kind → Moves (free_move (step_of_kind kind (code / 8)) next i s at)
         unfolding move_of
-        free_move_law kind k = sym (ap (λ (n : ℕ). free_move_law (step_of_kind n (code / 8)) next i s at) k) ∙ other (blocked_of (step_of code) s at) Fail (free_move_law (step_of code) next i s at) f
+        free_move_law kind k = sym (ap (λ (n : ℕ). free_move (step_of_kind n (code / 8)) next i s at) k) ∙ other (blocked_of (step_of code) s at) Fail (free_move (step_of code) next i s at) f
 
         pub take_move : code % 8 ≡ 0 → Moves (Go (i + 1) (at + 1))
-        unfolding free_move_law
+        unfolding free_move
         take_move k = free_move_law 0 k
 
         module _ (k : code % 8 ≡ 1) where
           pub repeat_end : at ≡ length s → Moves (Go (i + 1) at)
-          unfolding free_move_law
+          unfolding free_move
           repeat_end e = chosen (eqb at (length s)) _ _ (eq-eqb at (length s) e) ∙ free_move_law 1 k
 
           module _ (n : at ≡ length s → ⊥) where
             repeat_here : Moves (cond (in_class (class_of (code / 8)) (get_or s at 0)) (Try i (at + 1)) (Go (i + 1) at))
-            unfolding free_move_law
+            unfolding free_move
             repeat_here = other (eqb at (length s)) _ _ (ne_eqb at (length s) n) ∙ free_move_law 1 k
 
             pub repeat_more : in_class (class_of (code / 8)) (get_or s at 0) ≡ true → Moves (Try i (at + 1))
@@ -94,15 +94,15 @@ module _ (s : Bytes) (at : ℕ) where
 
         module _ (k : code % 8 ≡ 2) where
           pub fork_far : blocked_of next s at ≡ true → Moves (Go (i + 1 + code / 8) at)
-          unfolding free_move_law
+          unfolding free_move
           fork_far e = chosen (blocked_of next s at) _ _ e ∙ free_move_law 2 k
 
           pub fork_both : blocked_of next s at ≡ false → Moves (Try (i + 1 + code / 8) at)
-          unfolding free_move_law
+          unfolding free_move
           fork_both e = other (blocked_of next s at) _ _ e ∙ free_move_law 2 k
 
         pub skip_move : code % 8 ≡ 3 → Moves (Go (i + 1 + code / 8) at)
-        unfolding free_move_law
+        unfolding free_move
         skip_move k = free_move_law 3 k
 
         pub edge_move : 4 ≤ code % 8 → code % 8 < 6 → Moves (Go (i + 1) at)

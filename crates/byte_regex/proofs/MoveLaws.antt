@@ -14,7 +14,7 @@ use Rattle.common.proofs.Choice.{by_cond, by_test, absurd_test}
 use Rattle.byte_regex.specs.Regex.{Class, in_class}
 use Rattle.byte_regex.specs.Match.{Test, takes, repeats, if_end}
 use Rattle.byte_regex.specs.Steps.{Step, take, repeat, fork, skip, first, last, done, steps_left, stays_among, stay_inside}
-use Rattle.byte_regex.specs.Meaning.{ahead, mean, still, test_at, holds, step_of, steps_of, StepTable, blocked_of, free_move_law, move_of}
+use Rattle.byte_regex.specs.Meaning.{ahead, mean, still, test_at, holds, step_of, steps_of, StepTable, blocked_of, free_move, move_of}
 use Rattle.byte_regex.specs.declared.Move.{Move}
 use Rattle.byte_regex.specs.declared.Move.TheVariants.{Pass, Fail, Go, Try}
 use Rattle.byte_regex.proofs.MatchLaws.{and_left, and_right}
@@ -123,8 +123,8 @@ module _ (s : Bytes) (at : ℕ) (h : at ≤ length s) where
         ∙ (λ z. ahead (later p i) 0 (still true at) (sym (at_byte m) z) || (in_class c (get_or s at 0) && (past_byte (repeats c (ahead (later p i) 0)) ∙ sym (e (at + 1))) z))
         ∙ ap (λ (b : Bool). b || (in_class c (get_or s at 0) && holds p i s (at + 1))) (next_is at)
 
-    free_right : (step : Step) → Means step → T (stays_among behind step) → blocked_of step s at ≡ false → Right p s i at (free_move_law step (get_or p (i + 1) done) i s at)
-    unfolding free_move_law Right Means blocked_of
+    free_right : (step : Step) → Means step → T (stays_among behind step) → blocked_of step s at ≡ false → Right p s i at (free_move step (get_or p (i + 1) done) i s at)
+    unfolding free_move Right Means blocked_of
     free_right (take c) e t f =
         let b = byte_left c f in (
           next_place (i + 1) (omega arith) (next_inside t) b.0,

@@ -84,17 +84,17 @@ blocked_of last s at = not (eqb at (length s))
 blocked_of done s at = false
 
 -- the move of a step that is not blocked; at a fork whose next step is, only the further one is left
-unfoldable pub free_move_law : Step → Step → ℕ → Bytes → ℕ → Move
+unfoldable pub free_move : Step → Step → ℕ → Bytes → ℕ → Move
 unfolding blocked_of
-free_move_law (take c) next i s at = Go (i + 1) (at + 1)
-free_move_law (repeat c) next i s at = cond (eqb at (length s)) (Go (i + 1) at) (cond (in_class c (get_or s at 0)) (Try i (at + 1)) (Go (i + 1) at))
-free_move_law (fork n) next i s at = cond (blocked_of next s at) (Go (i + 1 + n) at) (Try (i + 1 + n) at)
-free_move_law (skip n) next i s at = Go (i + 1 + n) at
-free_move_law first next i s at = Go (i + 1) at
-free_move_law last next i s at = Go (i + 1) at
-free_move_law done next i s at = Pass
+free_move (take c) next i s at = Go (i + 1) (at + 1)
+free_move (repeat c) next i s at = cond (eqb at (length s)) (Go (i + 1) at) (cond (in_class c (get_or s at 0)) (Try i (at + 1)) (Go (i + 1) at))
+free_move (fork n) next i s at = cond (blocked_of next s at) (Go (i + 1 + n) at) (Try (i + 1 + n) at)
+free_move (skip n) next i s at = Go (i + 1 + n) at
+free_move first next i s at = Go (i + 1) at
+free_move last next i s at = Go (i + 1) at
+free_move done next i s at = Pass
 
 -- from step i at a place: the pattern fits; it does not; go on at a step and a place; or so, unless the next step holds here
 unfoldable pub move_of : Step → Step → ℕ → Bytes → ℕ → Move
-unfolding blocked_of free_move_law
-move_of step next i s at = cond (blocked_of step s at) Fail (free_move_law step next i s at)
+unfolding blocked_of free_move
+move_of step next i s at = cond (blocked_of step s at) Fail (free_move step next i s at)

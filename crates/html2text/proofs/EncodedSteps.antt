@@ -62,14 +62,14 @@ item_written end bare depth o h =
     (λ e. pushed (push_all (replicate (depth * 2) 0x20) o) (octets_valid (codes "<li>") refl) (pushed o (spaces (depth * 2)) h))
 
 -- the names that are told apart
-abbrev all_valid_law : List Bytes → Bool
-all_valid_law [] = true
-all_valid_law (w ∷ ws) = valid w && all_valid_law ws
+abbrev all_valid : List Bytes → Bool
+all_valid [] = true
+all_valid (w ∷ ws) = valid w && all_valid ws
 
-all_valid_law : (ws : List Bytes) → all_valid_law ws ≡ true → (i : ℕ) → UTF8_octets (get_or ws i [])
+all_valid_law : (ws : List Bytes) → all_valid ws ≡ true → (i : ℕ) → UTF8_octets (get_or ws i [])
 all_valid_law [] e i = none
-all_valid_law (w ∷ ws) e zero = octets_valid w (and_parts (valid w) (all_valid_law ws) e).0
-all_valid_law (w ∷ ws) e (suc i) = all_valid_law ws (and_parts (valid w) (all_valid_law ws) e).1 i
+all_valid_law (w ∷ ws) e zero = octets_valid w (and_parts (valid w) (all_valid ws) e).0
+all_valid_law (w ∷ ws) e (suc i) = all_valid_law ws (and_parts (valid w) (all_valid ws) e).1 i
 
 name_octets : (t : ℕ) → UTF8_octets (name_of t)
 unfolding name_of tag_names words first_word other_words codes valid expect

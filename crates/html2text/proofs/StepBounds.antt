@@ -77,14 +77,14 @@ costs_item end bare depth =
     (costs_more (omega arith) (costs_then (costs_spaces (depth * 2)) (costs_push_all (codes "<li>"))))
 
 -- the names that are told apart have at most ten letters
-abbrev no_longer_law : ℕ → List Bytes → Bool
-no_longer_law k [] = true
-no_longer_law k (w ∷ ws) = leb (length w) k && no_longer_law k ws
+abbrev no_longer : ℕ → List Bytes → Bool
+no_longer k [] = true
+no_longer k (w ∷ ws) = leb (length w) k && no_longer k ws
 
-no_longer_law : (k : ℕ) (ws : List Bytes) → no_longer_law k ws ≡ true → (i : ℕ) → length (get_or ws i []) ≤ k
+no_longer_law : (k : ℕ) (ws : List Bytes) → no_longer k ws ≡ true → (i : ℕ) → length (get_or ws i []) ≤ k
 no_longer_law k [] e i = omega arith
-no_longer_law k (w ∷ ws) e zero = leb-true (length w) k (and_parts (leb (length w) k) (no_longer_law k ws) e).0
-no_longer_law k (w ∷ ws) e (suc i) = no_longer_law k ws (and_parts (leb (length w) k) (no_longer_law k ws) e).1 i
+no_longer_law k (w ∷ ws) e zero = leb-true (length w) k (and_parts (leb (length w) k) (no_longer k ws) e).0
+no_longer_law k (w ∷ ws) e (suc i) = no_longer_law k ws (and_parts (leb (length w) k) (no_longer k ws) e).1 i
 
 name_length : (t : ℕ) → length (name_of t) ≤ 10
 unfolding name_of tag_names words first_word other_words codes

@@ -74,20 +74,20 @@ fit_least at_start k m f b t p = let h = f b t (and_right b (k b t) p) in omega 
 fit_least at_end k m f b [] p = let h = f b [] p in omega arith
 fit_least at_end k m f b (x ∷ t) p = absurd p
 
-all_two_law : List Regex → Bool
+all_two : List Regex → Bool
 unfolding min_length least
-all_two_law [] = true
-all_two_law (r ∷ rs) = leb 2 (min_length r) && all_two_law rs
+all_two [] = true
+all_two (r ∷ rs) = leb 2 (min_length r) && all_two rs
 
-all_two_law : T (all_two_law patterns)
-unfolding all_two_law min_length least patterns word exact
+all_two_law : T (all_two patterns)
+unfolding all_two min_length least patterns word exact
 all_two_law = tt
 
-two_at : (rs : List Regex) → T (all_two_law rs) → (p : ℕ) → p < length rs → 2 ≤ min_length (get_or rs p nothing)
-unfolding all_two_law
+two_at : (rs : List Regex) → T (all_two rs) → (p : ℕ) → p < length rs → 2 ≤ min_length (get_or rs p nothing)
+unfolding all_two
 two_at [] t p h = absurd (omega arith)
-two_at (r ∷ rs) t zero h = leb→le 2 (min_length r) (and_left (leb 2 (min_length r)) (all_two_law rs) t)
-two_at (r ∷ rs) t (suc p) h = two_at rs (and_right (leb 2 (min_length r)) (all_two_law rs) t) p (omega arith)
+two_at (r ∷ rs) t zero h = leb→le 2 (min_length r) (and_left (leb 2 (min_length r)) (all_two rs) t)
+two_at (r ∷ rs) t (suc p) h = two_at rs (and_right (leb 2 (min_length r)) (all_two rs) t) p (omega arith)
 
 -- so none begins where fewer are left
 pub short_begins : (b : Bool) (t : Bytes) → length t < 2 → (p : ℕ) → p < pattern_count → T (fit (pattern p) always b t) → ⊥
