@@ -27,7 +27,7 @@ GARBLED = {"is_IsBody": "is_body"}
 LAWS = """body-above row-said tag-margins all-to-come row-to bit-and in-float rust-text rust-options times-of ends-blank block-shown attribute-text
 node-text first-wrong columns-from header-length attributes-give nodes-give pool-start row-texts numbers-at kind-right text-right range-numbers
 range-values asked-of same-range same-ranges children-of stay-inside is-empty parent-of free_move all_valid no_longer all_two""".split()
-RENAMED = {"most-depth": "depth_within", "fifth-of-any": "a_fifth_of_any", "preDepth": "pre_depth_of", "goOn": "going_on"}
+RENAMED = {"most-depth": "depth_within", "fifth-of-any": "a_fifth_of_any", "preDepth": "pre_depth_of", "goOn": "going_on", "isADivOrLi": "is_a_div_or_li", "byte-Reads": "byte_reads"}
 RENAMED.update((name, re.sub("-", "_", name) + "_law") for name in LAWS)
 
 

@@ -11,7 +11,7 @@ use Rattle.common.proofs.Choice.{by_test}
 use Rattle.common.proofs.Equality.{same_not}
 use Rattle.patterns.specs.Patterns.{article_cls, skip_link_cls}
 use Rattle.byte_regex.specs.Match.{finds}
-use Rattle.tags.specs.Tags.{tag_names, tag_of, is_ul, is_article, is_div, is_footer, is_aDiv_or_li, is_block_tag}
+use Rattle.tags.specs.Tags.{tag_names, tag_of, is_ul, is_article, is_div, is_footer, is_a_div_or_li, is_block_tag}
 use Rattle.tags.specs.Words.{words, first_word, other_words, is, one_of, number_from}
 use Rattle.tags.proofs.TagLaws.{known, unknown, tag_tests}
 use Rattle.tags.proofs.WordLaws.{each, each_at, beq_true, one_of_cons, one_word, none_of, none_of_none}
@@ -24,9 +24,9 @@ module _ (name : Bytes) {tag : ℕ} (tag_is : tag ≡ tag_of name) where
 
   -- what a test on the number answers is what the test on the name does
   module _ {r : Bool} where
-    pub skip_link_named : (t : Bytes) → r ≡ (is_aDiv_or_li tag && finds skip_link_cls t) → r ≡ skip_link name t
+    pub skip_link_named : (t : Bytes) → r ≡ (is_a_div_or_li tag && finds skip_link_cls t) → r ≡ skip_link name t
     unfolding skip_link
-    skip_link_named t e = e ∙ ap (λ (q : Bool). q && finds skip_link_cls t) (ap is_aDiv_or_li tag_is ∙ (tag_tests name).a_div_or_li)
+    skip_link_named t e = e ∙ ap (λ (q : Bool). q && finds skip_link_cls t) (ap is_a_div_or_li tag_is ∙ (tag_tests name).a_div_or_li)
 
     pub article_named : (t : Bytes) → r ≡ (is_article tag || finds article_cls t) → r ≡ article name t
     unfolding article

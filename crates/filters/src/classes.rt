@@ -4,7 +4,7 @@ ghost use Rattle.patterns.specs.Candidates.{Candidates};
 ghost use Rattle.patterns.specs.Patterns.{article_cls, skip_link_cls};
 ghost use Rattle.byte_regex.specs.Joined.{joined};
 ghost use Rattle.byte_regex.specs.Match.{finds};
-ghost use Rattle.tags.specs.Tags.{is_aDiv_or_li, is_article};
+ghost use Rattle.tags.specs.Tags.{is_a_div_or_li, is_article};
 ghost use Rattle.filters.specs.Classes.{any_match, ArePatterns, Joinable, Tables};
 ghost use Rattle.filters.specs.Filters.{comment_section, landmark, not_displayed, signin_meta_or_social};
 
@@ -55,7 +55,7 @@ pub fn not_displayed(
 }
 
 fn is_a_div_or_li(tag: u8) -> bool
-    ensures { result ≡ is_aDiv_or_li tag }
+    ensures { result ≡ is_a_div_or_li tag }
 {
     if tag == tags::A {
         return true;
@@ -68,7 +68,7 @@ fn is_a_div_or_li(tag: u8) -> bool
 
 pub fn skip_link(steps: &Steps, masks: &Masks, set: u32, tag: u8, class: &[u8], id: &[u8]) -> bool
     requires { Tables steps.now masks.now × Joinable class.now id.now × Candidates set (joined class.now id.now) }
-    ensures { result ≡ (is_aDiv_or_li tag && finds skip_link_cls (joined class.now id.now)) }
+    ensures { result ≡ (is_a_div_or_li tag && finds skip_link_cls (joined class.now id.now)) }
 {
     if is_a_div_or_li(tag) {
         return matches_among(steps, masks, set, patterns::SKIP_LINK_CLS, class, id);

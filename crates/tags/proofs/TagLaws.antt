@@ -8,7 +8,7 @@ use borrow.Author.Tests.{not-true}
 use Rattle.common.specs.Bytes.{Bytes, codes, same}
 use Rattle.common.proofs.Choice.{by_test, absurd_test, and_parts}
 use Rattle.common.proofs.Equality.{same_true}
-use Rattle.tags.specs.Tags.{tag_names, tag_of, name_of, is_block, is_tr, is_cell, is_ul, is_ol, is_list, is_li, is_pre, is_br, is_heading_or_p, is_big_block, is_block_tag, is_a, is_textarea, is_image, is_button, is_input, is_article, is_div, is_footer, is_aDiv_or_li, NumbersOfNames, TagsTellNames}
+use Rattle.tags.specs.Tags.{tag_names, tag_of, name_of, is_block, is_tr, is_cell, is_ul, is_ol, is_list, is_li, is_pre, is_br, is_heading_or_p, is_big_block, is_block_tag, is_a, is_textarea, is_image, is_button, is_input, is_article, is_div, is_footer, is_a_div_or_li, NumbersOfNames, TagsTellNames}
 use Rattle.tags.specs.Words.{words, first_word, other_words, is, one_of, number_from}
 use Rattle.tags.proofs.WordLaws.{each, each_at, no_number, one_word, by_words}
 
@@ -77,6 +77,6 @@ tag_tests name = record {
   article = told_one is_article (codes "article") refl name;
   div = told_one is_div (codes "div") refl name;
   footer = told_one is_footer (codes "footer") refl name;
-  a_div_or_li = told is_aDiv_or_li (words "a div li") refl name;
+  a_div_or_li = told is_a_div_or_li (words "a div li") refl name;
   written = written_name name;
 }

@@ -87,8 +87,8 @@ abbrev pub is_footer : ℕ → Bool
 is_footer t = eqb t footer
 
 -- `matches!(name.as_str(), "a" | "div" | "li")`
-abbrev pub is_aDiv_or_li : ℕ → Bool
-is_aDiv_or_li t = is_a t || (is_div t || is_li t)
+abbrev pub is_a_div_or_li : ℕ → Bool
+is_a_div_or_li t = is_a t || (is_div t || is_li t)
 
 -- what is to be shown: each number is that of its name
 abbrev pub NumbersOfNames : Type 0
@@ -117,7 +117,7 @@ pub record TagTests (name : Bytes) : Type 0 where
   pub article : is_article (tag_of name) ≡ is name "article"
   pub div : is_div (tag_of name) ≡ is name "div"
   pub footer : is_footer (tag_of name) ≡ is name "footer"
-  pub a_div_or_li : is_aDiv_or_li (tag_of name) ≡ one_of name (words "a div li")
+  pub a_div_or_li : is_a_div_or_li (tag_of name) ≡ one_of name (words "a div li")
   -- the names that are written
   pub written : (is_heading_or_p (tag_of name) || is_list (tag_of name)) ≡ true → name_of (tag_of name) ≡ name
 

@@ -7,7 +7,7 @@ use lib.ListN.{drop}
 use borrow.Author.Rules.{rules}
 use Rattle.byte_regex.specs.Joined.{joined}
 use Rattle.byte_regex.specs.Meaning.{still}
-use Rattle.byte_regex.proofs.byte.Reads as byte_Reads
+use Rattle.byte_regex.proofs.byte.Reads as byte_reads
 use Rattle.patterns.specs.Candidates.{CanBegin}
 use Rattle.patterns.proofs.CandidateLaws.{none_begins, near_mask, far_mask, both_begin}
 use Rattle.patterns.proofs.group_at.Reads as group_at_reads
@@ -41,7 +41,7 @@ pair_requires : tie.Need-pair-requires
 pair_requires c κs = search rules
 
 -- by the two bytes at the place
-near : (d : lts.After_pair (group_at_reads.Asked, group_at_reads.Learnt, byte_Reads.Asked, byte_Reads.Learnt, Pair_reads.Asked, Pair_reads.Learnt) reads.Pre reads.Post)
+near : (d : lts.After_pair (group_at_reads.Asked, group_at_reads.Learnt, byte_reads.Asked, byte_reads.Learnt, Pair_reads.Asked, Pair_reads.Learnt) reads.Pre reads.Post)
     → CanBegin (still true d.before.before.before.before.before.before.before.args.at) (drop d.before.before.before.before.before.before.before.args.at (joined d.before.before.before.before.before.before.before.args.class.now d.before.before.before.before.before.before.before.args.id.now)) d.pair.result
 near d =
     let a = d.before.before.before.before.before.before.before.args in
