@@ -116,7 +116,7 @@ need_small l h = omega (arith, h.need)
 within_idle : {adds writes : ℕ} → FusedWithin adds writes 0 idle
 within_idle =
     record {
-      pre_depth_of = omega arith;
+      pre_depth = omega arith;
       below = omega arith;
       need = omega arith;
       run = record { margins = omega arith; uncollapsed = omega arith; numbers = λ i. omega arith; numbering = refl; depth = omega arith; rows = omega arith; prefix = omega arith; below = omega arith; peak = omega arith };
@@ -150,7 +150,7 @@ module _ (o : ExtractOptions) {adds writes k : ℕ} {F : Fused} (h : FusedWithin
       let more = added o e.node e.end F.node.tag in
       let Q : ℕ → State → Type 0 = λ held. StateWithin (k + 1) ((k + 1) * writes) held in
       record {
-        pre_depth_of = by_cond (λ (G : Fused). G.node.pre_depth ≤ k + 1) (pushes_on o F e) (λ p. pre_depth_low (tag_number e.node) e.end F.node.pre_depth h.pre_depth) (λ p. omega (arith, h.pre_depth));
+        pre_depth = by_cond (λ (G : Fused). G.node.pre_depth ≤ k + 1) (pushes_on o F e) (λ p. pre_depth_low (tag_number e.node) e.end F.node.pre_depth h.pre_depth) (λ p. omega (arith, h.pre_depth));
         below = below_fed o e F h.below;
         need = by_cond (λ (G : Fused). G.note.peak ≤ (k + 1) * adds) (pushes_on o F e)
             (λ p. pushed_low first (emptied o F.note) (omega arith) h.need (adds_few.short (tag_number e.node)))

@@ -174,7 +174,7 @@ module _ {o : ExtractOptions} {whole F : Fused} {e : Event} {rest : List Event} 
     unfolding fed opened begun
     bounded_begun =
         let b = rw p at next_bounded in
-        record { pre_depth_of = b.pre_depth; below = omega arith; need = omega (arith, a.bounded.need); run = bounded_closed o a.bounded (omega (arith, a.few)) }
+        record { pre_depth = b.pre_depth; below = omega arith; need = omega (arith, a.bounded.need); run = bounded_closed o a.bounded (omega (arith, a.few)) }
 
     pub begun_bounded : {T : State} → closed o (begun o e F) ≡ going T → StateBounded (a.count + 2) T
     begun_bounded c = bounded_two bounded_begun c

@@ -49,7 +49,7 @@ pub record StateWithin (k most held : ℕ) (S : State) : Type 0 where
 
 -- the fused run after at most k events that each add at most `adds` bytes to a text and `writes` to what is written
 pub record FusedWithin (adds writes k : ℕ) (F : Fused) : Type 0 where
-  pub pre_depth_of : F.node.pre_depth ≤ k
+  pub pre_depth : F.node.pre_depth ≤ k
   pub below : length F.note.text ≤ F.note.peak
   pub need : F.note.peak ≤ k * adds
   pub run : Going (StateWithin k (k * writes) (length F.note.text)) F.run

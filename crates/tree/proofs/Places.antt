@@ -104,7 +104,7 @@ pub record Somewhere (p : Option ℕ) (f : Forest ℕ) (j : ℕ) : Type 0 where
 
 somewhere : (p : Option ℕ) (d : ℕ) (f : Forest ℕ) (r : ℕ × ℕ) → Memᴰ r (preorder_at d f) → Somewhere p f r.1
 unfolding Place preorder_at
-somewhere p d empty r m = absurd (Memᴰ.not_nil m)
+somewhere p d empty r m = absurd (Memᴰ.not-nil m)
 somewhere p d (node i cs rs) r m =
     ⊎_elim
     (λ e. record { parent = p; children = cs; rest = rs; place = inl (refl, ap (λ (x : ℕ × ℕ). x.1) (sym e), refl, refl) })

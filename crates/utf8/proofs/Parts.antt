@@ -51,7 +51,7 @@ never_within x = by_test (within never x) (λ w. let b = within_bounds never x w
 -- no character begins with a tail
 tail_first : (x : ℕ) (s : Bytes) → within UTF8_tail x ≡ true → expect [] (x ∷ s) ≡ false
 unfolding expect
-tail_first x s w = let b = within_bounds UTF8_tail x w in rw (sym (follows 0x80 0x40 (never ∷ []) refl x (omega arith) (omega arith))) (none s)
+tail_first x s w = let b = within_bounds UTF8_tail x w in rw (sym (follows 0x80 0x40 (never ∷ []) refl x (omega arith) (omega arith)), expect) (none s)
   where
     none : (t : Bytes) → expect (never ∷ []) t ≡ false
     none [] = refl
