@@ -14,6 +14,7 @@ use Rattle.tree.specs.Page.{node_at}
 use Rattle.tree.specs.Questions.{on_sheet, by_sheet}
 use Rattle.tree.proofs.AlikeSheets.{node_same, depths_same}
 use Rattle.writer.specs.Out.{Out}
+use Rattle.visible_text.specs.declared.VisibleText.TheVariants as answer
 use Rattle.visible_text.specs.Answers.{answered_in, holding, visible_text_in, visible_text_out}
 use Rattle.visible_text.specs.Theorems.{MarksUntouched}
 use Rattle.visible_text.specs.VisibleText.{visible}
@@ -39,6 +40,6 @@ module _ {s₁ s₂ : Bytes} {l : Layout} (alike : AlikeButSkips s₁ s₂ l) wh
 pub marks_untouched : MarksUntouched
 unfolding visible_text_in visible_text_out
 marks_untouched s₁ s₂ l alike = record {
-  answer = λ row room. answer_same alike (λ o. answered_in o room) _ _ row;
-  out = λ row out. answer_same alike (λ o. holding o out) _ _ row;
+  answer = λ row room. answer_same alike (λ o. answered_in o room) _ (λ v. answer.Refused v) row;
+  out = λ row out. answer_same alike (λ o. holding o out) _ (λ v. out) row;
 }
