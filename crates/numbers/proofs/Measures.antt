@@ -1,12 +1,9 @@
 -- A link measure, with its numbers at hand.
-use mathlib.Core.Path.{◌≡◌, ap, ◌∙◌, sym}
+use mathlib.Core.Path.{◌≡◌, refl, ap, ◌∙◌, sym}
 use mathlib.Core.List.{[], ◌∷◌}
 use Prim.Native.Nat.{ℕ}
-use denote.Enum.Declared.{tag_of}
 use lib.Ieee.{Float}
-use types.Run.{OneOf, miss}
 use Rattle.common.specs.Answer.{Answer}
-use Rattle.links.specs.contracts.questions.MeasureAnswer.{the_type}
 use Rattle.links.specs.Questions.{numbers}
 use Rattle.links.specs.declared.Measure.{Measure}
 use Rattle.links.specs.declared.Rule.{Rule}
@@ -15,15 +12,15 @@ use Rattle.links.specs.declared.questions.MeasureAnswer.TheVariants.{Measured, N
 use Rattle.numbers.specs.Values.{link_measure_of, no_share, share_in, yes_in}
 use Rattle.numbers.specs.declared.values.LinkMeasure.{LinkMeasure}
 
--- an answer that is no measure, by the number of its case
+-- an answer that is no measure
 abbrev NoMeasure : MeasureAnswer → Type 0
-NoMeasure a = OneOf (1 ∷ 2 ∷ []) (tag_of the_type a)
+NoMeasure a = (m : Measure) → a ≡ Measured m → ⊥
 
 abbrev with : ℕ → Float → Answer → LinkMeasure
 with exceeds share x = record { answer = x; exceeds = exceeds; share = share }
 
 pub not_measured : (rule : Rule) (a : MeasureAnswer) {x : Answer} → x ≡ numbers a → NoMeasure a → with 0 no_share x ≡ link_measure_of rule a
-not_measured rule (Measured m) e k = absurd (miss (1 ∷ 2 ∷ []) 0 tt k)
+not_measured rule (Measured m) e k = absurd (k m refl)
 not_measured rule (NoElement i) e k = ap (with 0 no_share) e
 not_measured rule (Refused v) e k = ap (with 0 no_share) e
 

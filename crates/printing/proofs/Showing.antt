@@ -5,8 +5,6 @@ use Prim.Native.Nat.{ℕ, ◌+◌, ◌≤◌}
 use native.Mathlib.Omega.{arith}
 use lib.ListN.{length, take, length-append}
 use lib.Seq.{length-take-le}
-use denote.Enum.Declared.{tag_of}
-use types.Run.{OneOf, miss}
 use Rattle.common.specs.Answer.{Answer}
 use Rattle.common.specs.Bytes.{Bytes}
 use Rattle.common.specs.Puts.{Puts}
@@ -40,12 +38,12 @@ shown_length e out f = omega (arith, length-append (answer_line (numbers e)) (te
 
 -- ---- cases
 
--- an extraction that is not a text, by the number of its case
+-- an extraction that is not a text
 abbrev NoText : Extraction → Type 0
-NoText e = OneOf (1 ∷ 2 ∷ 3 ∷ 4 ∷ 5 ∷ []) (tag_of the_type e)
+NoText e = (visits len : ℕ) → e ≡ Text visits len → ⊥
 
 no_text : (e : Extraction) (out : Bytes) → NoText e → text_in e out ≡ []
-no_text (Text visits len) out k = absurd (miss (1 ∷ 2 ∷ 3 ∷ 4 ∷ 5 ∷ []) 0 tt k)
+no_text (Text visits len) out k = absurd (k visits len refl)
 no_text (Refused v) out k = refl
 no_text (ListLevels line) out k = refl
 no_text (OpenRows line) out k = refl

@@ -6,8 +6,6 @@ use mathlib.Core.Logic.{◌⊎◌, inl, inr}
 use mathlib.Core.Option.{Option, none, some}
 use Prim.Native.Nat.{ℕ, zero, suc, ◌+◌, ◌≤◌}
 use native.Mathlib.Omega.{arith}
-use denote.Enum.Declared.{tag_of}
-use types.Run.{OneOf, miss}
 use lib.Dec.{leb, ltb, eqb}
 use lib.ListN.{length}
 use borrow.Author.Tests.{leb-true, eqb-true, eq-eqb, ne_eqb}
@@ -25,7 +23,6 @@ use Rattle.sheet.specs.declared.line.Layout.{Layout}
 use Rattle.sheet.specs.declared.line.Row.{Row}
 use Rattle.sheet.specs.declared.verdict.Verdict.{Verdict}
 use Rattle.sheet.specs.declared.verdict.Verdict.TheVariants.{Sheet, Length, Format, Counts, Kind, Tree, Range, Encoding}
-use Rattle.sheet.specs.contracts.verdict.Verdict.{the_type}
 use Rattle.sheet.proofs.FirstWrong.{all_right}
 use Rattle.sheet.proofs.Header.{counted}
 use Rattle.sheet.proofs.LayoutLaws.{in_pool, range_in_pool}
@@ -96,10 +93,10 @@ sheet_is h = cc
 
 -- what the code knows of a verdict that is not `Sheet`
 abbrev pub NotSheet : Verdict → Type 0
-NotSheet v = OneOf (1 ∷ 2 ∷ 3 ∷ 4 ∷ 5 ∷ 6 ∷ 7 ∷ []) (tag_of the_type v)
+NotSheet v = (l : Layout) → v ≡ Sheet l → ⊥
 
 pub not_sheet : (v : Verdict) → NotSheet v → is_sheet v ≡ false
-not_sheet (Sheet l) k = absurd (miss (1 ∷ 2 ∷ 3 ∷ 4 ∷ 5 ∷ 6 ∷ 7 ∷ []) 0 tt k)
+not_sheet (Sheet l) k = absurd (k l refl)
 not_sheet (Length n) k = refl
 not_sheet (Format n) k = refl
 not_sheet Counts k = refl

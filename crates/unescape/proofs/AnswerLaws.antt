@@ -7,8 +7,6 @@ use native.Mathlib.Nat.{zero-add}
 use native.Mathlib.Omega.{arith}
 use lib.ListN.{length, take, replicate}
 use borrow.Author.Tests.{lt-ltb, le-ltb}
-use denote.Enum.Declared.{tag_of}
-use types.Run.{OneOf, miss}
 use Rattle.common.specs.Bytes.{Bytes}
 use Rattle.common.specs.Puts.{Puts}
 use Rattle.common.proofs.Puts.{puts_length, puts_padded}
@@ -17,18 +15,17 @@ use Rattle.unescape.specs.Inner.{measure}
 use Rattle.unescape.specs.Unescape.{Reading, text, no_entity, no_entity_from, unescaped, reading_by, unescape}
 use Rattle.unescape.specs.declared.Unescaped.{Unescaped}
 use Rattle.unescape.specs.declared.Unescaped.TheVariants.{Text, NoEntity, TooShort}
-use Rattle.unescape.specs.contracts.Unescaped.{the_type}
 
--- an answer that is no text, by the number of its case
+-- an answer that is no text
 abbrev NoText : Unescaped → Type 0
-NoText r = OneOf (1 ∷ 2 ∷ []) (tag_of the_type r)
+NoText r = (n : ℕ) → r ≡ Text n → ⊥
 
 -- the answer and the output of a reading
 abbrev Said : Reading → Bytes → Unescaped → Bytes → Type 0
 Said reading out r after = (r ≡ answered_in reading (length out)) × (after ≡ holding reading out)
 
 no_text : (reading : Reading) (out : Bytes) → NoText (measure reading) → Said reading out (measure reading) out
-no_text (text t) out k = absurd (miss (1 ∷ 2 ∷ []) 0 tt k)
+no_text (text t) out k = absurd (k _ refl)
 no_text (no_entity at) out k = (refl, refl)
 
 -- tells the cases apart, and the texts by their lengths
