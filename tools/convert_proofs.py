@@ -15,7 +15,7 @@ import sys
 # What every context has beside its steps.
 HEAD = {"args", "requires", "ranges", "well_formed", "lifetimes", "type_inv", "utf8", "told"}
 # The module of an old file's goals; in a recursion it is called after the function.
-TIE = r"(?:tie|[^\s.()]+-lts)"
+TIE = r"(?:tie|[^\s.()]+[-_]lts)"
 # Words that port.py respelled in paths where they were a function's name.
 RESPELLED = {"type-size": "size-of"}
 WORD = r"[^\s(){}\[\],;.:=λ→←↦|]+"
@@ -439,7 +439,7 @@ class Paths:
 def context_lemma(decl, names, cycle, say):
     """A local lemma over an old context: over the record of that place today. Returns its text and the place's name."""
     text = "\n".join(decl.lines)
-    m = re.search(r"\((\S+) : (?:lts|[^\s.()]+-lts)\.(\S+?)(\s(?:[^()]|\([^()]*\))*)?\)", text)
+    m = re.search(r"\((\S+) : (?:lts|[^\s.()]+[-_]lts)\.(\S+?)(\s(?:[^()]|\([^()]*\))*)?\)", text)
     before, eqs = decl.equations()
     if not m or m.group(2) not in names.at or not eqs:
         say(f"the local lemma {decl.name} takes a context")
@@ -770,7 +770,7 @@ def open_module(decls, names, key, say):
             if re.search(r"(?<![\w.])" + re.escape(a) + r"\.", body):
                 say(f"the measure {d.name}: an argument that was not found")
             measure = "\n".join(d.comment + [f"abbrev pub decreases-{own} : goal.decreases-{own}", f"decreases-{own} l ={body}"])
-        elif d.name and re.search(r"In \d+ \S+\.ps|-lts\.Claims|\.Lts-\S+", d.type):
+        elif d.name and re.search(r"In \d+ \S+\.ps|[-_]lts\.Claims|\.Lts[-_]\S+", d.type):
             continue
         else:
             out.append(d)
@@ -802,7 +802,7 @@ def convert(path, key, names, said):
     locals_ = [d for d in decls if d is not spec and d.name not in measures and d.name not in answers]
     places_used = []
     for d in locals_:
-        if re.search(r"(?:\blts|-lts|tie)\.[A-Z]", d.text()):
+        if re.search(r"(?:\blts|[-_]lts|tie)\.[A-Z]", d.text()):
             text, place_name = context_lemma(d, names, cycle, say)
             if text:
                 again = read_lines(text.split("\n"))[2][0]

@@ -10,7 +10,6 @@ use Rattle.common.specs.Bytes.{Bytes}
 use Rattle.common.specs.Puts.{Puts}
 use Rattle.common.proofs.Puts.{puts_then, puts_length}
 use Rattle.html2text.specs.Extract.{numbers}
-use Rattle.html2text.specs.contracts.Extraction.{the_type}
 use Rattle.html2text.specs.declared.Extraction.{Extraction}
 use Rattle.html2text.specs.declared.Extraction.TheVariants.{Text, Refused, ListLevels, OpenRows, WorkTooShort, OutTooShort}
 use Rattle.sheet.proofs.WritingColumns.{line_length}

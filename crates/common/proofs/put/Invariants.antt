@@ -1,0 +1,11 @@
+-- `put` meets its contract.
+use Prim.Native.Nat.{◌+◌, ◌-◌, ◌≤◌}
+use lib.ListN.{drop, length}
+use Rattle.common.proofs.Puts.{Putting}
+use Rattle.common.proofs.put.Given as goal
+
+abbrev pub invariant-loop-i : goal.invariant-loop-i
+invariant-loop-i l = (l.i ≤ length l.word) × Putting l.initial.out l.at l.word l.out (l.at + l.i) (drop l.i l.word)
+
+abbrev pub decreases-loop-i : goal.decreases-loop-i
+decreases-loop-i l = length l.word - l.i

@@ -1,0 +1,16 @@
+-- `values::role_outside` meets its contract.
+use mathlib.Core.Path.{refl}
+use native.Mathlib.Omega.{arith}
+use Rattle.common.specs.Bytes.{codes, same}
+use Rattle.tags.specs.Words.{words, first_word, other_words, one_of}
+use Rattle.filters.specs.Filters.{role_outside}
+use Rattle.filters.proofs.ValueLaws.{among_held}
+use Rattle.filters.proofs.values.role_outside.Goals as goal
+
+pub among-requires : goal.among-requires
+unfolding words first_word other_words codes one_of same
+among-requires c = (c.requires.0, c.requires.1, omega arith, refl)
+
+pub returns : goal.returns
+unfolding role_outside words codes
+returns c = λ attributes g. among_held g.role (words "alert banner checkbox comment complementary contentinfo dialog img menu menubar menuitem navigation presentation radio search searchbox separator tab toolbar tooltip") c.among.ensures

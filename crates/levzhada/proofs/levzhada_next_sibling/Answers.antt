@@ -1,0 +1,6 @@
+-- `levzhada_next_sibling` meets its contract.
+use mathlib.Core.Path.{◌∙◌}
+use Rattle.levzhada.proofs.levzhada_next_sibling.Goals as goal
+
+pub returns : goal.returns
+returns c = c.of_relative.ensures ∙ c.next_sibling_of.ensures.1

@@ -1,0 +1,6 @@
+-- `levzhada_parent` meets its contract.
+use mathlib.Core.Path.{◌∙◌}
+use Rattle.levzhada.proofs.levzhada_parent.Goals as goal
+
+pub returns : goal.returns
+returns c = c.of_relative.ensures ∙ c.parent_of.ensures.1

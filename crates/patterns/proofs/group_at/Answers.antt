@@ -1,0 +1,8 @@
+-- `group_at` meets its contract.
+use native.Mathlib.Omega.{arith}
+use mathlib.Core.Path.{sym}
+use Rattle.patterns.proofs.CandidateLaws.{group_past}
+use Rattle.patterns.proofs.group_at.Goals as goal
+
+pub returns : goal.returns
+returns c = (sym (group_past c.args.at c.if-at-eq0.false), omega arith)

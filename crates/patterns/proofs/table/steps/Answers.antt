@@ -1,0 +1,7 @@
+-- `table::steps` meets its contract.
+use Rattle.patterns.proofs.StepNumbers.{step_numbers, steps_are}
+use Rattle.patterns.proofs.table.steps.Goals as goal
+
+pub returns : goal.returns
+unfolding step_numbers
+returns c = steps_are

@@ -1,0 +1,9 @@
+-- `tests::leaf_right` meets its contract.
+use borrow.Author.Tests.{eq-eqb, ne_eqb}
+use Rattle.sheet.proofs.tests.leaf_right.Goals as goal
+
+pub returns-then-r-eq0 : goal.returns-then-r-eq0
+returns-then-r-eq0 c = simp (eq-eqb _ _ c.if-r-eq0.true)
+
+pub returns : goal.returns
+returns c = simp (ne_eqb _ _ c.if-r-eq0.false)

@@ -1,0 +1,15 @@
+-- `valid_part` meets its contract.
+use mathlib.Core.Path.{sym, ◌∙◌}
+use Rattle.utf8.proofs.Parts.{part_none, part_cut, part_whole}
+use Rattle.utf8.proofs.valid_part.Goals as goal
+
+pub returns-then-len-eq0 : goal.returns-then-len-eq0
+returns-then-len-eq0 c = let a = c.args in sym (part_none a.s.now a.at a.len c.if-len-eq0.true)
+
+pub returns-then-not-is_between : goal.returns-then-not-is_between
+returns-then-not-is_between c = let a = c.args in sym (part_cut a.s.now a.at a.len c.if-len-eq0.false (sym c.is_between.ensures ∙ c.if-not-is_between.true))
+
+pub returns : goal.returns
+returns c =
+    let a = c.args in
+    c.is_between-2.ensures ∙ sym (part_whole a.s.now a.at a.len c.requires.0 (sym c.is_between.ensures ∙ c.if-not-is_between.false))

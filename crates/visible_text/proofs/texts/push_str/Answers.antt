@@ -1,0 +1,23 @@
+-- `push_str` meets its contract.
+use mathlib.Core.Path.{refl}
+use native.Mathlib.Omega.{arith}
+use Rattle.text.specs.Text.{is_ascii_whitespace}
+use Rattle.text.proofs.TrimLaws.{rstrip_length}
+use Rattle.writer.proofs.HeldLaws.{run_room, run_small, ran}
+use Rattle.visible_text.proofs.texts.push_str.Goals as goal
+
+pub store-requires : goal.store-requires
+store-requires c = run_room _ c.requires
+
+pub grown-requires : goal.grown-requires
+grown-requires c = omega (
+  arith,
+  run_small _ c.requires,
+  c.trim_end.ensures,
+  rstrip_length
+      is_ascii_whitespace c.args.s.now,
+)
+
+pub returns : goal.returns
+returns c = ran _ c.requires refl c.trim_end.ensures
+    c.grown.ensures c.store.ensures

@@ -1,0 +1,14 @@
+-- `pass` meets its contract.
+use lib.ListN.{length}
+use Rattle.serializer.specs.Serializing.{lent}
+use Rattle.visits.specs.Visiting.{passes_left}
+use Rattle.writing.proofs.PassLaws.{Passing}
+use Rattle.writing.proofs.pass.Given as goal
+
+abbrev pub invariant-loop-v : goal.invariant-loop-v
+invariant-loop-v l =
+    Passing l.o l.s l.l l.left l.write l.initial.out (length l.initial.stack) l.stack (lent l.numbering l.cells l.out) l.w l.visits l.p
+
+abbrev pub decreases-loop-v : goal.decreases-loop-v
+decreases-loop-v l =
+    length (passes_left l.s l.l l.left l.w l.stack)
