@@ -7,7 +7,7 @@
  * - nothing else changes the bytes while the call runs;
  * - the stack has room for the call (LEVZHADA_STACK below).
  *
- * Link with liblevzhada.a, which `rt staticlib levzhada` writes to target/staticlib/.
+ * Link with liblevzhada.a, which `bash .ci/archive` writes to target/staticlib/.
  */
 #ifndef LEVZHADA_H
 #define LEVZHADA_H

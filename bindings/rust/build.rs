@@ -1,4 +1,4 @@
-//! Links the archive: LEVZHADA_LIB is its path, or else it is where `rt staticlib levzhada` writes it in the repository.
+//! Links the archive: LEVZHADA_LIB is its path, or else it is where `.ci/archive` writes it in the repository.
 
 use std::env;
 use std::path::PathBuf;
@@ -9,7 +9,7 @@ fn main() {
     let archive = named.unwrap_or_else(|| PathBuf::from("../../target/staticlib/liblevzhada.a"));
     let Ok(archive) = archive.canonicalize() else {
         panic!(
-            "no {}: run `rt staticlib levzhada`, or set LEVZHADA_LIB to the archive's path",
+            "no {}: run `.ci/archive`, or set LEVZHADA_LIB to the archive's path",
             archive.display()
         );
     };

@@ -4,15 +4,15 @@
 #![tactic(auto)]
 
 use common::Written;
-use libc::STDOUT_FILENO;
+use std::io;
+use std::io::Print;
 
-fn print(s: &[u8]) {
-    io::write_all(STDOUT_FILENO, s);
+fn print<P: Print>(to: &P, s: &[u8]) -> io::Result<()> {
+    to.write_all(s)
 }
 
-fn number(n: usize) {
-    print(b" ");
-    io::print_decimal(STDOUT_FILENO, n as u64);
+fn number<P: Print>(to: &P, n: usize) -> io::Result<()> {
+    print!(to; " {n}")
 }
 
 fn digit(n: u8) -> u8 {
@@ -25,33 +25,32 @@ fn digit(n: u8) -> u8 {
     63
 }
 
-fn byte(b: u8) {
-    print(&[digit(b / 16), digit(b % 16)]);
+fn byte<P: Print>(to: &P, b: u8) -> io::Result<()> {
+    print(to, &[digit(b / 16), digit(b % 16)])
 }
 
-fn bytes(s: &[u8]) {
-    let mut i = 0;
-    while i < s.len() {
-        byte(s[i]);
-        i += 1;
+fn bytes<P: Print>(to: &P, s: &[u8]) -> io::Result<()> {
+    for b in s {
+        byte(to, *b)?;
     }
+    Ok(())
 }
 
-fn written(w: Written, out: &[u8]) {
+fn written<P: Print>(to: &P, w: Written, out: &[u8]) -> io::Result<()> {
     match w {
         Written::Text(n) => {
-            number(0);
-            number(0);
-            number(n);
+            number(to, 0)?;
+            number(to, 0)?;
+            number(to, n)?;
         }
         Written::TooShort(need) => {
-            number(32);
-            number(need);
-            number(0);
+            number(to, 32)?;
+            number(to, need)?;
+            number(to, 0)?;
         }
     }
-    print(b" ");
-    bytes(out);
+    print(to, b" ")?;
+    bytes(to, out)
 }
 
 fn need_of(w: Written) -> usize {
@@ -61,167 +60,170 @@ fn need_of(w: Written) -> usize {
     }
 }
 
-fn collapse_to(s: &[u8], out: &mut [u8]) {
+fn collapse_to<P: Print>(to: &P, s: &[u8], out: &mut [u8]) -> io::Result<()> {
     let w = text::collapse(s, out);
-    written(w, out);
+    written(to, w, out)
 }
 
-fn collapse_part(s: &[u8], out: &mut [u8], room: usize) {
+fn collapse_part<P: Print>(to: &P, s: &[u8], out: &mut [u8], room: usize) -> io::Result<()> {
     if room <= out.len() {
-        collapse_to(s, &mut out[..room]);
+        collapse_to(to, s, &mut out[..room])?;
     }
+    Ok(())
 }
 
-fn collapse_into(s: &[u8], room: usize) {
+fn collapse_into<P: Print>(to: &P, s: &[u8], room: usize) -> io::Result<()> {
     let mut out = [0xEEu8; 256];
-    collapse_part(s, &mut out, room);
+    collapse_part(to, s, &mut out, room)
 }
 
-fn escape_to(s: &[u8], out: &mut [u8]) {
+fn escape_to<P: Print>(to: &P, s: &[u8], out: &mut [u8]) -> io::Result<()> {
     let w = text::escape(s, out);
-    written(w, out);
+    written(to, w, out)
 }
 
-fn escape_part(s: &[u8], out: &mut [u8], room: usize) {
+fn escape_part<P: Print>(to: &P, s: &[u8], out: &mut [u8], room: usize) -> io::Result<()> {
     if room <= out.len() {
-        escape_to(s, &mut out[..room]);
+        escape_to(to, s, &mut out[..room])?;
     }
+    Ok(())
 }
 
-fn escape_into(s: &[u8], room: usize) {
+fn escape_into<P: Print>(to: &P, s: &[u8], room: usize) -> io::Result<()> {
     let mut out = [0xEEu8; 256];
-    escape_part(s, &mut out, room);
+    escape_part(to, s, &mut out, room)
 }
 
-fn collapse(s: &[u8]) {
+fn collapse<P: Print>(to: &P, s: &[u8]) -> io::Result<()> {
     let mut none = [0u8; 0];
     let need = need_of(text::collapse(s, &mut none));
-    print(b" collapse");
-    collapse_into(s, need);
+    print(to, b" collapse")?;
+    collapse_into(to, s, need)?;
     if 0 < need {
-        collapse_into(s, need - 1);
+        collapse_into(to, s, need - 1)?;
     }
     if need < 253 {
-        collapse_into(s, need + 3);
+        collapse_into(to, s, need + 3)?;
     }
+    Ok(())
 }
 
-fn escape(s: &[u8]) {
+fn escape<P: Print>(to: &P, s: &[u8]) -> io::Result<()> {
     let mut none = [0u8; 0];
     let need = need_of(text::escape(s, &mut none));
-    print(b" escape");
-    escape_into(s, need);
+    print(to, b" escape")?;
+    escape_into(to, s, need)?;
     if 0 < need {
-        escape_into(s, need - 1);
+        escape_into(to, s, need - 1)?;
     }
     if need < 253 {
-        escape_into(s, need + 3);
+        escape_into(to, s, need + 3)?;
     }
+    Ok(())
 }
 
-fn show(s: &[u8]) {
-    bytes(s);
+fn show<P: Print>(to: &P, s: &[u8]) -> io::Result<()> {
+    bytes(to, s)?;
     if utf8::valid(s) {
-        print(b" utf8");
+        print(to, b" utf8")?;
     } else {
-        print(b" other");
+        print(to, b" other")?;
     }
-    number(text::rstrip(s));
-    print(b" ");
-    bytes(text::trim(s));
-    collapse(s);
-    escape(s);
-    print(b"\n");
+    number(to, text::rstrip(s))?;
+    print(to, b" ")?;
+    bytes(to, text::trim(s))?;
+    collapse(to, s)?;
+    escape(to, s)?;
+    print(to, b"\n")
 }
 
 // Each byte alone.
-fn single_bytes() {
-    let mut i: u16 = 0;
-    while i < 256 {
-        show(&[(i % 256) as u8]);
-        i += 1;
+fn single_bytes<P: Print>(to: &P) -> io::Result<()> {
+    for b in 0..=u8::MAX {
+        show(to, &[b])?;
     }
+    Ok(())
 }
 
-fn blanks_and_entities() {
-    show(b"");
-    show(b" ");
-    show(b" \t\n\x0B\x0C\r");
-    show(b"a");
-    show(b" a");
-    show(b"a ");
-    show(b"\t a \n b\r\x0C");
-    show(b"a  b\x0B\x0Bc");
-    show(b"\xC2\xA0a\xC2\xA0");
-    show(b"&\"<>'");
-    show(b"&amp;");
-    show(b"<a href=\"u\">");
+fn blanks_and_entities<P: Print>(to: &P) -> io::Result<()> {
+    show(to, b"")?;
+    show(to, b" ")?;
+    show(to, b" \t\n\x0B\x0C\r")?;
+    show(to, b"a")?;
+    show(to, b" a")?;
+    show(to, b"a ")?;
+    show(to, b"\t a \n b\r\x0C")?;
+    show(to, b"a  b\x0B\x0Bc")?;
+    show(to, b"\xC2\xA0a\xC2\xA0")?;
+    show(to, b"&\"<>'")?;
+    show(to, b"&amp;")?;
+    show(to, b"<a href=\"u\">")
 }
 
 // The last octet of a character is missing.
-fn truncated() {
-    show(b"\xC3");
-    show(b"\xC3\xA9");
-    show(b"\xE2\x82");
-    show(b"\xE2\x82\xAC");
-    show(b"\xE2\x82\xAC\xE2");
-    show(b"\xF0\x9F\x98");
-    show(b"\xF0\x9F\x98\x80");
-    show(b"\xF0\x9F\x98\x80a\xF0");
-    show(b"\xC3a");
-    show(b"\xE2\x82a");
-    show(b"\xF0\x9F\x98a");
+fn truncated<P: Print>(to: &P) -> io::Result<()> {
+    show(to, b"\xC3")?;
+    show(to, b"\xC3\xA9")?;
+    show(to, b"\xE2\x82")?;
+    show(to, b"\xE2\x82\xAC")?;
+    show(to, b"\xE2\x82\xAC\xE2")?;
+    show(to, b"\xF0\x9F\x98")?;
+    show(to, b"\xF0\x9F\x98\x80")?;
+    show(to, b"\xF0\x9F\x98\x80a\xF0")?;
+    show(to, b"\xC3a")?;
+    show(to, b"\xE2\x82a")?;
+    show(to, b"\xF0\x9F\x98a")
 }
 
 // A longer form than the number needs, beside the least number of that length.
-fn overlong() {
-    show(b"\xC0\x80");
-    show(b"\xC1\xBF");
-    show(b"\xC2\x80");
-    show(b"\xE0\x80\x80");
-    show(b"\xE0\x9F\xBF");
-    show(b"\xE0\xA0\x80");
-    show(b"\xF0\x80\x80\x80");
-    show(b"\xF0\x8F\xBF\xBF");
-    show(b"\xF0\x90\x80\x80");
+fn overlong<P: Print>(to: &P) -> io::Result<()> {
+    show(to, b"\xC0\x80")?;
+    show(to, b"\xC1\xBF")?;
+    show(to, b"\xC2\x80")?;
+    show(to, b"\xE0\x80\x80")?;
+    show(to, b"\xE0\x9F\xBF")?;
+    show(to, b"\xE0\xA0\x80")?;
+    show(to, b"\xF0\x80\x80\x80")?;
+    show(to, b"\xF0\x8F\xBF\xBF")?;
+    show(to, b"\xF0\x90\x80\x80")
 }
 
 // U+D7FF, the first and the last surrogate, U+E000.
-fn surrogates() {
-    show(b"\xED\x9F\xBF");
-    show(b"\xED\xA0\x80");
-    show(b"\xED\xBF\xBF");
-    show(b"\xEE\x80\x80");
-    show(b"\xED\xA0\xBD\xED\xB8\x80");
+fn surrogates<P: Print>(to: &P) -> io::Result<()> {
+    show(to, b"\xED\x9F\xBF")?;
+    show(to, b"\xED\xA0\x80")?;
+    show(to, b"\xED\xBF\xBF")?;
+    show(to, b"\xEE\x80\x80")?;
+    show(to, b"\xED\xA0\xBD\xED\xB8\x80")
 }
 
 // U+10FFFF, and what would be above.
-fn above() {
-    show(b"\xF4\x8F\xBF\xBF");
-    show(b"\xF4\x90\x80\x80");
-    show(b"\xF5\x80\x80\x80");
-    show(b"\xF7\xBF\xBF\xBF");
-    show(b"\xF8\x88\x80\x80\x80");
-    show(b"\xFC\x84\x80\x80\x80\x80");
+fn above<P: Print>(to: &P) -> io::Result<()> {
+    show(to, b"\xF4\x8F\xBF\xBF")?;
+    show(to, b"\xF4\x90\x80\x80")?;
+    show(to, b"\xF5\x80\x80\x80")?;
+    show(to, b"\xF7\xBF\xBF\xBF")?;
+    show(to, b"\xF8\x88\x80\x80\x80")?;
+    show(to, b"\xFC\x84\x80\x80\x80\x80")
 }
 
-fn stray_tails() {
-    show(b"a\x80");
-    show(b"\xBFa");
-    show(b"\xC3\xA9\xA9");
-    show(b"\xE2\x82\xAC\x80");
-    show(b"\xFE\xFF");
-    show(b"\xEF\xBB\xBFa");
-    show(b"\xDF\xBF");
-    show(b"\xEF\xBF\xBF");
+fn stray_tails<P: Print>(to: &P) -> io::Result<()> {
+    show(to, b"a\x80")?;
+    show(to, b"\xBFa")?;
+    show(to, b"\xC3\xA9\xA9")?;
+    show(to, b"\xE2\x82\xAC\x80")?;
+    show(to, b"\xFE\xFF")?;
+    show(to, b"\xEF\xBB\xBFa")?;
+    show(to, b"\xDF\xBF")?;
+    show(to, b"\xEF\xBF\xBF")
 }
 
-fn main() {
-    blanks_and_entities();
-    truncated();
-    overlong();
-    surrogates();
-    above();
-    stray_tails();
-    single_bytes();
+fn main(rt: HostRuntime) -> io::Result<()> {
+    blanks_and_entities(&rt)?;
+    truncated(&rt)?;
+    overlong(&rt)?;
+    surrogates(&rt)?;
+    above(&rt)?;
+    stray_tails(&rt)?;
+    single_bytes(&rt)
 }

@@ -1,14 +1,28 @@
 // The program: an option line and a sheet from standard input; the answer's numbers and its text to standard output.
 #![tactic(auto)]
 
-use libc::{STDIN_FILENO, STDOUT_FILENO};
 use printing::{LONGEST, ROOM, print};
+use std::io::{self, Print, Read};
 
-fn main() {
+// How many bytes of `from` stand in `buf`: as many as it holds, or all there are.
+fn read_full<R: Read>(from: &mut R, buf: &mut [u8]) -> io::Result<usize> {
+    let mut n: usize = 0;
+    while n < buf.len() {
+        let k = from.read(&mut buf[n..])?;
+        if k == 0 {
+            return Ok(n);
+        }
+        n += k;
+    }
+    Ok(n)
+}
+
+fn main(rt: HostRuntime) -> io::Result<()> {
     // One byte more than is taken, so that a longer input is seen.
     let mut input = [0u8; ROOM + 1];
     let mut printed = [0u8; LONGEST];
-    let len = io::read_full(STDIN_FILENO, &mut input);
+    let mut stdin = rt.stdin();
+    let len = read_full(&mut stdin, &mut input)?;
     let end = print(&input[..len], &mut printed);
-    io::write_all(STDOUT_FILENO, &printed[..end]);
+    rt.write_all(&printed[..end])
 }

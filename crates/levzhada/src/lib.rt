@@ -1,4 +1,4 @@
-// The entry points for other languages: each answer in document 01's numbers. A slice is a pointer and a length.
+// The entry points for other languages, as a library: each answer in the numbers of docs/SHEET.md. `levzhada_c` exports them to C.
 #![tactic(auto)]
 
 ghost use Rattle.std.specs.Prelude.{◌≡◌, length};
@@ -38,21 +38,14 @@ fn wrong_options() -> Answer
     Answer::refused(Answer::WRONG_OPTIONS, 0)
 }
 
-#[unsafe(no_mangle)]
-pub extern "C" fn levzhada_check(sheet: &[u8]) -> Answer
+pub fn levzhada_check(sheet: &[u8]) -> Answer
     ensures { result ≡ numbers (verdict sheet.now) }
 {
     of_verdict(check(sheet))
 }
 
 // options: the option line, eleven digits and LF; what follows it is not looked at.
-#[unsafe(no_mangle)]
-pub extern "C" fn levzhada_extract(
-    sheet: &[u8],
-    options: &[u8],
-    out: &mut [u8],
-    work: &mut [u8],
-) -> Answer
+pub fn levzhada_extract(sheet: &[u8], options: &[u8], out: &mut [u8], work: &mut [u8]) -> Answer
     ensures answer { result ≡ extract_numbers sheet.now options.now (length out.old) (length work.old) }
     ensures text { out.new ≡ extract_out sheet.now options.now out.old work.old }
     ensures cleared { work.new ≡ extract_work sheet.now options.now work.old }
@@ -64,8 +57,7 @@ pub extern "C" fn levzhada_extract(
 }
 
 // noscript: 0 is off, any other number on.
-#[unsafe(no_mangle)]
-pub extern "C" fn levzhada_mark(sheet: &mut [u8], options: &[u8], noscript: usize) -> Answer
+pub fn levzhada_mark(sheet: &mut [u8], options: &[u8], noscript: usize) -> Answer
     ensures answer { result ≡ mark_numbers sheet.old options.now noscript }
     ensures sheet { sheet.new ≡ mark_sheet sheet.old options.now noscript }
 {
@@ -75,87 +67,71 @@ pub extern "C" fn levzhada_mark(sheet: &mut [u8], options: &[u8], noscript: usiz
     of_marked(mark(sheet, o, noscript != 0))
 }
 
-#[unsafe(no_mangle)]
-pub extern "C" fn levzhada_parent(sheet: &[u8], row: usize) -> Answer
+pub fn levzhada_parent(sheet: &[u8], row: usize) -> Answer
     ensures { result ≡ relative_numbers parent_of sheet.now row }
 {
     of_relative(parent_of(sheet, row))
 }
 
-#[unsafe(no_mangle)]
-pub extern "C" fn levzhada_first_child(sheet: &[u8], row: usize) -> Answer
+pub fn levzhada_first_child(sheet: &[u8], row: usize) -> Answer
     ensures { result ≡ relative_numbers first_child_of sheet.now row }
 {
     of_relative(first_child_of(sheet, row))
 }
 
-#[unsafe(no_mangle)]
-pub extern "C" fn levzhada_next_sibling(sheet: &[u8], row: usize) -> Answer
+pub fn levzhada_next_sibling(sheet: &[u8], row: usize) -> Answer
     ensures { result ≡ relative_numbers next_sibling_of sheet.now row }
 {
     of_relative(next_sibling_of(sheet, row))
 }
 
-#[unsafe(no_mangle)]
-pub extern "C" fn levzhada_attribute(sheet: &[u8], row: usize, name: &[u8]) -> Range
+pub fn levzhada_attribute(sheet: &[u8], row: usize, name: &[u8]) -> Range
     ensures { result ≡ range_of (attribute_of sheet.now row name.now) }
 {
     range_of(attribute_of(sheet, row, name))
 }
 
-#[unsafe(no_mangle)]
-pub extern "C" fn levzhada_text_length(sheet: &[u8], row: usize) -> Answer
+pub fn levzhada_text_length(sheet: &[u8], row: usize) -> Answer
     ensures { result ≡ length_numbers sheet.now row }
 {
     of_length(text_length_of(sheet, row))
 }
 
-#[unsafe(no_mangle)]
-pub extern "C" fn levzhada_measure(
-    sheet: &[u8],
-    row: usize,
-    ratio: f64,
-    limit: usize,
-) -> LinkMeasure
+pub fn levzhada_measure(sheet: &[u8], row: usize, ratio: f64, limit: usize) -> LinkMeasure
     ensures { result ≡ link_measure_of (rule_of ratio limit) (measure_answer_of sheet.now row (rule_of ratio limit)) }
 {
     let rule = Rule { ratio, limit };
     link_measure_of(rule, measure_of(sheet, row, rule))
 }
 
-#[unsafe(no_mangle)]
-pub extern "C" fn levzhada_matches(pattern: usize, text: &[u8]) -> Answer
+pub fn levzhada_matches(pattern: usize, text: &[u8]) -> Answer
     ensures { result ≡ answer_of pattern text.now }
 {
     of_matched(matches(pattern, text))
 }
 
-#[unsafe(no_mangle)]
-pub extern "C" fn levzhada_collapse(text: &[u8], out: &mut [u8]) -> Answer
+pub fn levzhada_collapse(text: &[u8], out: &mut [u8]) -> Answer
     ensures answer { result ≡ written_in (texts.collapse text.now) (length out.old) }
     ensures buffer { out.new ≡ out_after (texts.collapse text.now) out.old }
 {
     of_written(collapse(text, out))
 }
 
-#[unsafe(no_mangle)]
-pub extern "C" fn levzhada_escape(text: &[u8], out: &mut [u8]) -> Answer
+pub fn levzhada_escape(text: &[u8], out: &mut [u8]) -> Answer
     ensures answer { result ≡ written_in (texts.escape text.now) (length out.old) }
     ensures buffer { out.new ≡ out_after (texts.escape text.now) out.old }
 {
     of_written(escape(text, out))
 }
 
-#[unsafe(no_mangle)]
-pub extern "C" fn levzhada_unescape(text: &[u8], out: &mut [u8]) -> Answer
+pub fn levzhada_unescape(text: &[u8], out: &mut [u8]) -> Answer
     ensures answer { result ≡ unescapes.numbers (unescapes.unescaped_in text.now (length out.old)) }
     ensures buffer { out.new ≡ unescapes.unescaped_out text.now out.old }
 {
     of_unescaped(unescape(text, out))
 }
 
-#[unsafe(no_mangle)]
-pub extern "C" fn levzhada_visible_text(sheet: &[u8], row: usize, out: &mut [u8]) -> Answer
+pub fn levzhada_visible_text(sheet: &[u8], row: usize, out: &mut [u8]) -> Answer
     ensures answer { result ≡ visible_texts.numbers (visible_texts.visible_text_in sheet.now row (length out.old)) }
     ensures buffer { out.new ≡ visible_texts.visible_text_out sheet.now row out.old }
 {
