@@ -1,6 +1,6 @@
 -- `attributes::attribute_number` meets its contract.
 use mathlib.Core.Path.{refl}
-use mathlib.Core.Bool.{not}
+use mathlib.Core.Bool.{not, ◌||◌}
 use mathlib.Core.List.{[]}
 use lib.Dec.{eqb}
 use lib.ListN.{length}
