@@ -7,8 +7,10 @@ use Rattle.serializer.proofs.lists.level.Goals as goal
 
 pub returns-then-n : goal.returns-then-n
 returns-then-n c =
-    let all = rw c.close_level.ensures (level_close _ _ _ (sym c.changes_level.ensures ∙ c.if-changes_level.true) c.if-n.true, numbers_close) in
-    record { works_levels = all.0; numbers = all.1 }
+    record {
+      works_levels = rw c.close_level.ensures (level_close _ _ _ (sym c.changes_level.ensures ∙ c.if-changes_level.true) c.if-n.true);
+      numbers = rw c.close_level.ensures numbers_close;
+    }
 
 pub offset_bounds-numbering-at : goal.offset_bounds-numbering-at
 offset_bounds-numbering-at c = omega (arith, c.requires (sym c.changes_level.ensures ∙ c.if-changes_level.true) c.if-n.false)

@@ -7,5 +7,6 @@ level-requires c = rw (c.count_uncollapsed.ensures, count_depth) c.requires.dept
 
 pub returns : goal.returns
 returns c =
-    let d = rw c.count_uncollapsed.ensures at (c.level.ensures.works_levels, c.level.ensures.numbers) in
-    record { works_levels = levels_works _ d.0; numbers = λ h. d.1 (numbers_count c.args.n h) }
+    let works = rw c.count_uncollapsed.ensures at c.level.ensures.works_levels in
+    let numbers = rw c.count_uncollapsed.ensures at c.level.ensures.numbers in
+    record { works_levels = levels_works _ works; numbers = λ h. numbers (numbers_count c.args.n h) }
