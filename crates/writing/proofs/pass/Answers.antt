@@ -15,7 +15,7 @@ pub see-seen-requires : goal.see-seen-requires
 see-seen-requires c = record { noted = c.requires.noted; nodes_in_bounds = (c.requires.walked.0.long, c.loop-v.invariant.walking.stands) }
 
 pub overflow_add-result : goal.overflow_add-result
-overflow_add-result c = omega (arith, visit_line c.loop-v.invariant c.see-seen.new.1.1.1.1.1.1.1.1.0 c.see-seen.ensures c.in-Visit.is)
+overflow_add-result c = omega (arith, visit_line c.loop-v.invariant c.see-seen.new.stack c.see-seen.ensures c.in-Visit.is)
 
 pub shape_of-stack-then-passes_levels : goal.shape_of-stack-then-passes_levels
 shape_of-stack-then-passes_levels c = c.stack-1.given ∙ c.loop-v.invariant.walking.same
@@ -30,10 +30,10 @@ pub shape_of-out-then-passes_levels : goal.shape_of-out-then-passes_levels
 shape_of-out-then-passes_levels c = c.loop-v.invariant.passes.stands.held.long
 
 pub returns-then-passes_levels : goal.returns-then-passes_levels
-returns-then-passes_levels c = record { outcome = refused_levels c.loop-v.invariant c.see-seen.new.1.1.1.1.1.1.1.1.0 c.see-seen.ensures c.in-Visit.is (sym c.passes_levels.ensures ∙ c.if-passes_levels.true) }
+returns-then-passes_levels c = record { outcome = refused_levels c.loop-v.invariant c.see-seen.new.stack c.see-seen.ensures c.in-Visit.is (sym c.passes_levels.ensures ∙ c.if-passes_levels.true) }
 
 pub overflow_add-result-then-passes_rows : goal.overflow_add-result-then-passes_rows
-overflow_add-result-then-passes_rows c = omega (arith, visit_line c.loop-v.invariant c.see-seen.new.1.1.1.1.1.1.1.1.0 c.see-seen.ensures c.in-Visit.is)
+overflow_add-result-then-passes_rows c = omega (arith, visit_line c.loop-v.invariant c.see-seen.new.stack c.see-seen.ensures c.in-Visit.is)
 
 pub shape_of-stack-then-passes_rows : goal.shape_of-stack-then-passes_rows
 shape_of-stack-then-passes_rows c = c.stack-1.given ∙ c.loop-v.invariant.walking.same
@@ -48,31 +48,31 @@ pub shape_of-out-then-passes_rows : goal.shape_of-out-then-passes_rows
 shape_of-out-then-passes_rows c = c.loop-v.invariant.passes.stands.held.long
 
 pub returns-then-passes_rows : goal.returns-then-passes_rows
-returns-then-passes_rows c = record { outcome = refused_rows c.loop-v.invariant c.see-seen.new.1.1.1.1.1.1.1.1.0 c.see-seen.ensures c.in-Visit.is (sym c.passes_levels.ensures ∙ c.if-passes_levels.false) (sym c.passes_rows.ensures ∙ c.if-passes_rows.true) }
+returns-then-passes_rows c = record { outcome = refused_rows c.loop-v.invariant c.see-seen.new.stack c.see-seen.ensures c.in-Visit.is (sym c.passes_levels.ensures ∙ c.if-passes_levels.false) (sym c.passes_rows.ensures ∙ c.if-passes_rows.true) }
 
 pub open-p-requires : goal.open-p-requires
-open-p-requires c = ((visit_ready c.loop-v.invariant c.see-seen.new.1.1.1.1.1.1.1.1.0 c.see-seen.ensures c.in-Visit.is (sym c.passes_levels.ensures ∙ c.if-passes_levels.false) (sym c.passes_rows.ensures ∙ c.if-passes_rows.false) c.requires.write_ready).1.opens, sym c.opens.ensures ∙ c.if-opens.true)
+open-p-requires c = ((visit_ready c.loop-v.invariant c.see-seen.new.stack c.see-seen.ensures c.in-Visit.is (sym c.passes_levels.ensures ∙ c.if-passes_levels.false) (sym c.passes_rows.ensures ∙ c.if-passes_rows.false) c.requires.write_ready).1.opens, sym c.opens.ensures ∙ c.if-opens.true)
 
 pub add-progress-requires : goal.add-progress-requires
-add-progress-requires c = let j : Opened c.args.o c.args.write c.in-Visit.v c.loop-v.p (lent c.loop-v.numbering c.loop-v.cells c.loop-v.out) c.if-opens.p (lent c.if-opens.numbering c.if-opens.cells c.if-opens.out) = ⊎_elim (λ w. record { levels = sym w.1.ensures ∙ w.2.left; rows = sym w.3.ensures ∙ w.4.left; opens = rw (w.15, w.16, w.17, w.18) w.8.ensures; levelled = rw (w.15, w.16) (record { numbering = w.9.given ∙ c.loop-v.invariant.levelled.numbering; cells = w.11.given ∙ c.loop-v.invariant.levelled.cells }) }) (λ w. rw (w.1, w.2, w.3, w.4) (opened_none c.loop-v.invariant c.see-seen.new.1.1.1.1.1.1.1.1.0 c.see-seen.ensures c.in-Visit.is (sym c.opens.ensures ∙ w.0.left))) c.if-opens.branch in let r = visit_ready c.loop-v.invariant c.see-seen.new.1.1.1.1.1.1.1.1.0 c.see-seen.ensures c.in-Visit.is j.levels j.rows c.requires.write_ready in record { visits = r.0; show_ready = visit_add _ r.0 j.opens r.1 }
+add-progress-requires c = let j : Opened c.args.o c.args.write c.in-Visit.v c.loop-v.p (lent c.loop-v.numbering c.loop-v.cells c.loop-v.out) c.if-opens.p (lent c.if-opens.numbering c.if-opens.cells c.if-opens.out) = ⊎_elim (λ w. record { levels = sym w.1.ensures ∙ w.2.left; rows = sym w.3.ensures ∙ w.4.left; opens = rw (w.15, w.16, w.17, w.18) w.8.ensures; levelled = rw (w.15, w.16) (record { numbering = w.9.given ∙ c.loop-v.invariant.levelled.numbering; cells = w.11.given ∙ c.loop-v.invariant.levelled.cells }) }) (λ w. rw (w.1, w.2, w.3, w.4) (opened_none c.loop-v.invariant c.see-seen.new.stack c.see-seen.ensures c.in-Visit.is (sym c.opens.ensures ∙ w.0.left))) c.if-opens.branch in let r = visit_ready c.loop-v.invariant c.see-seen.new.stack c.see-seen.ensures c.in-Visit.is j.levels j.rows c.requires.write_ready in record { visits = r.0; show_ready = visit_add _ r.0 j.opens r.1 }
 
 pub overflow_add-visits : goal.overflow_add-visits
 overflow_add-visits c = omega (arith, passed_few c.loop-v.invariant.walking c.requires.noted.accepted)
 
 pub loop-v-smaller-in-Visit : goal.loop-v-smaller-in-Visit
-loop-v-smaller-in-Visit c = visit_less c.loop-v.invariant c.see-seen.new.1.1.1.1.1.1.1.1.0 c.see-seen.ensures c.in-Visit.is
+loop-v-smaller-in-Visit c = visit_less c.loop-v.invariant c.see-seen.new.stack c.see-seen.ensures c.in-Visit.is
 
 pub loop-v-preserved-in-Visit : goal.loop-v-preserved-in-Visit
-loop-v-preserved-in-Visit c = let i = c.loop-v.invariant in let j : Opened c.args.o c.args.write c.in-Visit.v c.loop-v.p (lent c.loop-v.numbering c.loop-v.cells c.loop-v.out) c.if-opens.p (lent c.if-opens.numbering c.if-opens.cells c.if-opens.out) = ⊎_elim (λ w. record { levels = sym w.1.ensures ∙ w.2.left; rows = sym w.3.ensures ∙ w.4.left; opens = rw (w.15, w.16, w.17, w.18) w.8.ensures; levelled = rw (w.15, w.16) (record { numbering = w.9.given ∙ c.loop-v.invariant.levelled.numbering; cells = w.11.given ∙ c.loop-v.invariant.levelled.cells }) }) (λ w. rw (w.1, w.2, w.3, w.4) (opened_none c.loop-v.invariant c.see-seen.new.1.1.1.1.1.1.1.1.0 c.see-seen.ensures c.in-Visit.is (sym c.opens.ensures ∙ w.0.left))) c.if-opens.branch in let v = (visit_ready c.loop-v.invariant c.see-seen.new.1.1.1.1.1.1.1.1.0 c.see-seen.ensures c.in-Visit.is j.levels j.rows c.requires.write_ready).0 in passing_visit c.loop-v.invariant c.see-seen.new.1.1.1.1.1.1.1.1.0 c.see-seen.ensures c.in-Visit.is c.stack-1.given (visit_added _ v j.opens c.add-progress.ensures) (visit_read _ v j.opens c.add-progress.ensures i.passes) (record { numbering = j.levelled.numbering; cells = j.levelled.cells })
+loop-v-preserved-in-Visit c = let i = c.loop-v.invariant in let j : Opened c.args.o c.args.write c.in-Visit.v c.loop-v.p (lent c.loop-v.numbering c.loop-v.cells c.loop-v.out) c.if-opens.p (lent c.if-opens.numbering c.if-opens.cells c.if-opens.out) = ⊎_elim (λ w. record { levels = sym w.1.ensures ∙ w.2.left; rows = sym w.3.ensures ∙ w.4.left; opens = rw (w.15, w.16, w.17, w.18) w.8.ensures; levelled = rw (w.15, w.16) (record { numbering = w.9.given ∙ c.loop-v.invariant.levelled.numbering; cells = w.11.given ∙ c.loop-v.invariant.levelled.cells }) }) (λ w. rw (w.1, w.2, w.3, w.4) (opened_none c.loop-v.invariant c.see-seen.new.stack c.see-seen.ensures c.in-Visit.is (sym c.opens.ensures ∙ w.0.left))) c.if-opens.branch in let v = (visit_ready c.loop-v.invariant c.see-seen.new.stack c.see-seen.ensures c.in-Visit.is j.levels j.rows c.requires.write_ready).0 in passing_visit c.loop-v.invariant c.see-seen.new.stack c.see-seen.ensures c.in-Visit.is c.stack-1.given (visit_added _ v j.opens c.add-progress.ensures) (visit_read _ v j.opens c.add-progress.ensures i.passes) (record { numbering = j.levelled.numbering; cells = j.levelled.cells })
 
 pub overflow_add-visits-in-LeftOut : goal.overflow_add-visits-in-LeftOut
 overflow_add-visits-in-LeftOut c = omega (arith, passed_few c.loop-v.invariant.walking c.requires.noted.accepted)
 
 pub loop-v-smaller : goal.loop-v-smaller
-loop-v-smaller c = left_out_less c.loop-v.invariant c.see-seen.new.1.1.1.1.1.1.1.1.0 c.see-seen.ensures c.in-LeftOut.is
+loop-v-smaller c = left_out_less c.loop-v.invariant c.see-seen.new.stack c.see-seen.ensures c.in-LeftOut.is
 
 pub loop-v-preserved : goal.loop-v-preserved
-loop-v-preserved c = passing_left_out c.loop-v.invariant c.see-seen.new.1.1.1.1.1.1.1.1.0 c.see-seen.ensures c.in-LeftOut.is c.stack-1.given
+loop-v-preserved c = passing_left_out c.loop-v.invariant c.see-seen.new.stack c.see-seen.ensures c.in-LeftOut.is c.stack-1.given
 
 pub shape_of-stack-in-Done : goal.shape_of-stack-in-Done
 shape_of-stack-in-Done c = c.stack-1.given ∙ c.loop-v.invariant.walking.same
@@ -87,4 +87,4 @@ pub shape_of-out-in-Done : goal.shape_of-out-in-Done
 shape_of-out-in-Done c = c.loop-v.invariant.passes.stands.held.long
 
 pub returns-in-Done : goal.returns-in-Done
-returns-in-Done c = record { outcome = passing_end c.loop-v.invariant c.see-seen.new.1.1.1.1.1.1.1.1.0 c.see-seen.ensures c.in-Done.is }
+returns-in-Done c = record { outcome = passing_end c.loop-v.invariant c.see-seen.new.stack c.see-seen.ensures c.in-Done.is }

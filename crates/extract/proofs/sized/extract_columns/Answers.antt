@@ -17,5 +17,5 @@ extract_rows-requires c = let p = c.requires in record { noted = visits_noted p.
 
 pub returns : goal.returns
 returns c =
-    let all = rows_extract _ _ _ c.decide.new.1.1.1.1.1.1.0 c.decide.ensures.0 c.names_need-names.ensures c.extract_rows.ensures.concludes c.extract_rows.ensures.counted in
+    let all = rows_extract _ _ _ c.decide.new.left c.decide.ensures.0 c.names_need-names.ensures c.extract_rows.ensures.concludes c.extract_rows.ensures.counted in
     record { extracts = all.0; counted = all.1 }
