@@ -8,6 +8,6 @@ mkdir -p target/oracle
 export ORACLE=$PWD/target/oracle
 # is_space, trim, rstrip, collapse and escape, to the letter
 awk '/^(pub\(super\) )?fn (is_space|trim|rstrip|collapse|escape)\(/ { on = 1 } on { print } /^}/ { on = 0 }' "$rust" > "$ORACLE/html2text_bytes.rs"
-{ echo '['; grep -o 'show(b".*")' crates/byte_vectors/src/main.rt | sed 's/^show(//; s/)$/ as \&[u8],/'; echo ']'; } > "$ORACLE/inputs.rs"
+{ echo '['; grep -o 'show(to, b".*")' crates/byte_vectors/src/main.rt | sed 's/^show(to, //; s/)$/ as \&[u8],/'; echo ']'; } > "$ORACLE/inputs.rs"
 rustc -O -o "$ORACLE/byte_vectors" oracle/byte_vectors.rs
 "$ORACLE/byte_vectors" > crates/byte_vectors/stdout
