@@ -272,7 +272,7 @@ def link_cluster(p, rule, i):
     return yes
 
 
-# ---- crates/patterns/specs/Patterns.antt, read as it stands; crates/regex/specs/{Regex,Match,Joined}.antt
+# ---- crates/patterns/specs/Patterns.antt, read as it stands; crates/byte_regex/specs/{Regex,Match,Joined}.antt
 
 
 def read_patterns():
@@ -280,8 +280,8 @@ def read_patterns():
     source = open(os.path.join(here, "..", "crates", "patterns", "specs", "Patterns.antt"), encoding="utf-8").read()
     source = re.sub(r"(?m)^\s*--.*$", "", source)
     known = {
-        "atStart": rb"\A", "atEnd": rb"\Z", "blank": rb"[\t\n\v\f\r ]", "blanks": rb"[\t\n\v\f\r ]*", "dash": rb"[-_]", "dashes": rb"[-_]*",
-        "separator": rb"[\t\n\v\f\r \-_]", "hexDigits": rb"[0-9a-fA-F]+",
+        "at_start": rb"\A", "at_end": rb"\Z", "blank": rb"[\t\n\v\f\r ]", "blanks": rb"[\t\n\v\f\r ]*", "dash": rb"[-_]", "dashes": rb"[-_]*",
+        "separator": rb"[\t\n\v\f\r \-_]", "hex_digits": rb"[0-9a-fA-F]+",
     }
 
     def letter(c):
@@ -405,15 +405,15 @@ def hidden_by_attribute(attributes):
 
 
 def not_displayed(hidden_elements, class_, style):
-    return (not hidden_elements and finds("displayCls", class_)) or finds("displayCss", style)
+    return (not hidden_elements and finds("display_cls", class_)) or finds("display_css", style)
 
 
 def skip_link(name, combined):
-    return one_of(name, words("a div li")) and finds("skipLinkCls", combined)
+    return one_of(name, words("a div li")) and finds("skip_link_cls", combined)
 
 
 def signin_meta_or_social(post_meta, depth, class_):
-    return 2 < depth and (finds("signinCls", class_) or (not post_meta and finds("postMetaCls", class_)) or finds("socialCls", class_))
+    return 2 < depth and (finds("signin_cls", class_) or (not post_meta and finds("post_meta_cls", class_)) or finds("social_cls", class_))
 
 
 def ad_attribute(attributes):
@@ -421,7 +421,7 @@ def ad_attribute(attributes):
 
 
 def logo_or_ad(attributes, class_, combined):
-    return finds("logoCls", combined) or finds("adsCls", combined) or ad_attribute(attributes) or finds("otherJunkCls", class_)
+    return finds("logo_cls", combined) or finds("ads_cls", combined) or ad_attribute(attributes) or finds("other_junk_cls", class_)
 
 
 def not_block(name):
@@ -437,17 +437,17 @@ def role_outside(attributes):
 
 
 def comment_section(comments, combined):
-    return not comments and finds("commentsCls", combined)
+    return not comments and finds("comments_cls", combined)
 
 
 def article(name, combined):
-    return is_(name, "article") or finds("articleCls", combined)
+    return is_(name, "article") or finds("article_cls", combined)
 
 
 def landmark(id_, combined):
-    return (finds("landmarkId", id_) or finds("headerCls", combined) or finds("footerCls", combined) or finds("navCls", combined)
-            or finds("recommendedCls", combined) or finds("searchCls", combined) or finds("sidebarCls", combined)
-            or finds("modalCls", combined) or finds("galleryCls", combined) or finds("printCls", combined))
+    return (finds("landmark_id", id_) or finds("header_cls", combined) or finds("footer_cls", combined) or finds("nav_cls", combined)
+            or finds("recommended_cls", combined) or finds("search_cls", combined) or finds("sidebar_cls", combined)
+            or finds("modal_cls", combined) or finds("gallery_cls", combined) or finds("print_cls", combined))
 
 
 def by_block(o, cluster, depth, name, attributes, class_, id_):
