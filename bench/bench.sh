@@ -3,7 +3,7 @@
 # Use: [BEFORE=ARCHIVE [TEN_DIGITS=1]] [PACKAGES="PACKAGE .."] bench/bench.sh FOLDER-OF-html2text.rs-AND-filters.rs [REAL-PAGES]
 # REAL-PAGES: so many pages of Debian's documentation packages too (oracle/pages.py; Debian's own python3 has html5lib); with PACKAGES so
 # many of each of these, and page N is line N of target/oracle/bench_pages.names.
-# The reader is target/staticlib/liblevzhada.a (rt staticlib levzhada); READER=stand-in takes the Rust behind the same C function.
+# The reader is target/staticlib/liblevzhada.a (bash .ci/archive); READER=stand-in takes the Rust behind the same C function.
 # BEFORE: an older liblevzhada.a, timed beside it; its answers and bytes must be the reader's. TEN_DIGITS=1: one before 0.4.0, whose option
 # lines have no missing_alt.
 set -eu
@@ -19,7 +19,7 @@ if [ "${READER:-reader}" = stand-in ]; then
     reader=
 fi
 if [ -n "$reader" ] && [ ! -f "$reader" ]; then
-    echo "no $reader: rt staticlib levzhada, or READER=stand-in" >&2
+    echo "no $reader: bash .ci/archive, or READER=stand-in" >&2
     exit 1
 fi
 cc -O2 -Wall $flags -c -o "$made/reader.o" oracle/driver.c

@@ -2,7 +2,7 @@
 # Runs the Rust and the reader on the same cases and compares text and visits; the first difference is told with its input, made
 # as small as it will go. Document 01's pages come first, with the texts that stand there.
 # Use: oracle/compare.sh FOLDER-OF-html2text.rs-AND-filters.rs [COUNT [SEED [FROM]]]      (200000, 1, 0)
-# The reader is target/staticlib/liblevzhada.a (rt staticlib levzhada). READER=reference takes oracle/reference.py in its place,
+# The reader is target/staticlib/liblevzhada.a (bash .ci/archive). READER=reference takes oracle/reference.py in its place,
 # READER=stand-in the Rust behind the C function that oracle/driver.c calls.
 # SMALL=1: all small pages in the place of generated ones, COUNT of them from FROM on (there are 112,723).
 # REAL=N: N pages of Debian's documentation packages, each under five option lines (oracle/pages.py; Debian's own python3 has html5lib).
@@ -35,7 +35,7 @@ stand-in)
     ;;
 reader)
     if [ ! -f target/staticlib/liblevzhada.a ]; then
-        echo "no target/staticlib/liblevzhada.a: rt staticlib levzhada, or READER=stand-in or reference" >&2
+        echo "no target/staticlib/liblevzhada.a: bash .ci/archive, or READER=stand-in or reference" >&2
         exit 1
     fi
     cc -O2 -Wall -o "$made/driver" oracle/driver.c target/staticlib/liblevzhada.a

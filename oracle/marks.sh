@@ -1,5 +1,5 @@
 #!/usr/bin/env bash
-# Compares the marker, levzhada_mark of target/staticlib/liblevzhada.a (rt staticlib levzhada), with
+# Compares the marker, levzhada_mark of target/staticlib/liblevzhada.a (bash .ci/archive), with
 # - the reference oracle/marks.py on calls that it makes, sound and damaged ones and boundaries: each number, and every byte of the
 #   sheet afterwards;
 # - the Rust's own query: html2text.rs, unchanged, is asked for the text of a page, and its list of selectors answered by name. The
@@ -12,7 +12,7 @@ calls=${2:-60000} pages=${3:-60000} seed=${4:-1}
 cd "$(dirname "$0")/.."
 made=target/oracle
 if [ ! -f target/staticlib/liblevzhada.a ]; then
-    echo "no target/staticlib/liblevzhada.a: rt staticlib levzhada" >&2
+    echo "no target/staticlib/liblevzhada.a: bash .ci/archive" >&2
     exit 1
 fi
 mkdir -p "$made"

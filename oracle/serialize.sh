@@ -1,6 +1,6 @@
 #!/usr/bin/env bash
-# Builds the Rust of serialize.rs and lexbor.rs, unchanged, over the tree of a sheet, beside target/staticlib/liblevzhada.a (rt staticlib
-# levzhada): target/oracle/serialize/needs/release/serialize, whose strings tell the greatest length that they had, and
+# Builds the Rust of serialize.rs and lexbor.rs, unchanged, over the tree of a sheet, beside target/staticlib/liblevzhada.a (bash
+# .ci/archive): target/oracle/serialize/needs/release/serialize, whose strings tell the greatest length that they had, and
 # target/oracle/serialize/plain/release/serialize, whose strings are Rust's own.
 # Use: oracle/serialize.sh FOLDER-OF-serialize.rs-AND-lexbor.rs
 set -eu
@@ -8,7 +8,7 @@ sources=$(realpath "$1")
 cd "$(dirname "$0")/.."
 archive=$PWD/target/staticlib/liblevzhada.a
 if [ ! -f "$archive" ]; then
-    echo "no $archive: rt staticlib levzhada" >&2
+    echo "no $archive: bash .ci/archive" >&2
     exit 1
 fi
 made=$PWD/target/oracle/serialize

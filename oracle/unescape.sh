@@ -1,5 +1,5 @@
 #!/usr/bin/env bash
-# Compares levzhada_unescape of target/staticlib/liblevzhada.a (rt staticlib levzhada) with the reference oracle/unescape.py, on all short
+# Compares levzhada_unescape of target/staticlib/liblevzhada.a (bash .ci/archive) with the reference oracle/unescape.py, on all short
 # texts of some alphabets, damaged names and texts by chance; then asks whether the vectors tell the wrong readings of change request 5
 # from the right one.
 # Use: oracle/unescape.sh [TEXTS [SEED]]      (100000, 1)
@@ -7,7 +7,7 @@ set -eu
 cd "$(dirname "$0")/.."
 made=target/oracle
 if [ ! -f target/staticlib/liblevzhada.a ]; then
-    echo "no target/staticlib/liblevzhada.a: rt staticlib levzhada" >&2
+    echo "no target/staticlib/liblevzhada.a: bash .ci/archive" >&2
     exit 1
 fi
 mkdir -p "$made"

@@ -1,5 +1,5 @@
 #!/usr/bin/env bash
-# Compares levzhada_visible_text of target/staticlib/liblevzhada.a (rt staticlib levzhada) with
+# Compares levzhada_visible_text of target/staticlib/liblevzhada.a (bash .ci/archive) with
 # - the unchanged serialize.rs over the tree of a sheet (oracle/serialize.sh): every row of generated pages, text and need, with out too
 #   short, just long enough and longer, and the bytes around it;
 # - the reference oracle/visible_text.py, on sheets that it makes, sound and damaged ones, and rows that are not there.
