@@ -1,12 +1,29 @@
 -- `pass` meets its contract.
 use mathlib.Core.Path.{sym, ◌∙◌}
-use mathlib.Core.Logic.{⊎_elim}
 use native.Mathlib.Omega.{arith}
 use Rattle.serializer.specs.Serializing.{lent}
 use Rattle.visits.proofs.Walking.{passed_few}
 use Rattle.writing.proofs.PassLaws.{Opened, passing_start, visit_less, visit_line, refused_levels, refused_rows, visit_ready, opened_none, passing_visit, left_out_less, passing_left_out, passing_end}
 use Rattle.writing.proofs.SayLaws.{visit_add, visit_added, visit_read}
+use Rattle.writing.proofs.pass.Goals.{Joined-opens, then-opens+else-passes_levels+else-passes_rows, else-opens}
 use Rattle.writing.proofs.pass.Goals as goal
+
+-- whether or not the visit opened an entry
+opened : (d : Joined-opens)
+    → Opened d.args.o d.args.write d.in-Visit.v d.loop-v.p (lent d.loop-v.numbering d.loop-v.cells d.loop-v.out) d.if-opens.p (lent d.if-opens.numbering d.if-opens.cells d.if-opens.out)
+opened d =
+    elim d.if-opens.branch [
+      | then-opens+else-passes_levels+else-passes_rows w ↦
+          record {
+            levels = sym w.passes_levels.ensures ∙ w.if-passes_levels.false;
+            rows = sym w.passes_rows.ensures ∙ w.if-passes_rows.false;
+            opens = rw (w.numbering-is, w.cells-is, w.out-is, w.p-is) w.open-p.ensures;
+            levelled = record { numbering = d.if-opens.auto.numbering ∙ d.loop-v.invariant.levelled.numbering; cells = d.if-opens.auto.cells ∙ d.loop-v.invariant.levelled.cells };
+          }
+      | else-opens w ↦
+          rw (w.numbering-is, w.cells-is, w.out-is, w.p-is)
+          (opened_none d.loop-v.invariant d.see-seen.new.stack d.see-seen.ensures d.in-Visit.is (sym d.opens.ensures ∙ w.if-opens.false))
+    ]
 
 pub loop-v-init : goal.loop-v-init
 loop-v-init c = let q = c.requires.walked in passing_start _ _ _ _ c.requires.noted.accepted q.0 q.1 q.2 q.3 c.start-p.ensures
@@ -54,7 +71,10 @@ pub open-p-requires : goal.open-p-requires
 open-p-requires c = ((visit_ready c.loop-v.invariant c.see-seen.new.stack c.see-seen.ensures c.in-Visit.is (sym c.passes_levels.ensures ∙ c.if-passes_levels.false) (sym c.passes_rows.ensures ∙ c.if-passes_rows.false) c.requires.write_ready).1.opens, sym c.opens.ensures ∙ c.if-opens.true)
 
 pub add-progress-requires : goal.add-progress-requires
-add-progress-requires c = let j : Opened c.args.o c.args.write c.in-Visit.v c.loop-v.p (lent c.loop-v.numbering c.loop-v.cells c.loop-v.out) c.if-opens.p (lent c.if-opens.numbering c.if-opens.cells c.if-opens.out) = ⊎_elim (λ w. record { levels = sym w.1.ensures ∙ w.2.left; rows = sym w.3.ensures ∙ w.4.left; opens = rw (w.15, w.16, w.17, w.18) w.8.ensures; levelled = rw (w.15, w.16) (record { numbering = w.9.given ∙ c.loop-v.invariant.levelled.numbering; cells = w.11.given ∙ c.loop-v.invariant.levelled.cells }) }) (λ w. rw (w.1, w.2, w.3, w.4) (opened_none c.loop-v.invariant c.see-seen.new.stack c.see-seen.ensures c.in-Visit.is (sym c.opens.ensures ∙ w.0.left))) c.if-opens.branch in let r = visit_ready c.loop-v.invariant c.see-seen.new.stack c.see-seen.ensures c.in-Visit.is j.levels j.rows c.requires.write_ready in record { visits = r.0; show_ready = visit_add _ r.0 j.opens r.1 }
+add-progress-requires c =
+    let j = opened (goal.at.add-progress-requires c).Joined-opens in
+    let r = visit_ready c.loop-v.invariant c.see-seen.new.stack c.see-seen.ensures c.in-Visit.is j.levels j.rows c.requires.write_ready in
+    record { visits = r.0; show_ready = visit_add _ r.0 j.opens r.1 }
 
 pub overflow_add-visits : goal.overflow_add-visits
 overflow_add-visits c = omega (arith, passed_few c.loop-v.invariant.walking c.requires.noted.accepted)
@@ -63,7 +83,12 @@ pub loop-v-smaller-in-Visit : goal.loop-v-smaller-in-Visit
 loop-v-smaller-in-Visit c = visit_less c.loop-v.invariant c.see-seen.new.stack c.see-seen.ensures c.in-Visit.is
 
 pub loop-v-preserved-in-Visit : goal.loop-v-preserved-in-Visit
-loop-v-preserved-in-Visit c = let i = c.loop-v.invariant in let j : Opened c.args.o c.args.write c.in-Visit.v c.loop-v.p (lent c.loop-v.numbering c.loop-v.cells c.loop-v.out) c.if-opens.p (lent c.if-opens.numbering c.if-opens.cells c.if-opens.out) = ⊎_elim (λ w. record { levels = sym w.1.ensures ∙ w.2.left; rows = sym w.3.ensures ∙ w.4.left; opens = rw (w.15, w.16, w.17, w.18) w.8.ensures; levelled = rw (w.15, w.16) (record { numbering = w.9.given ∙ c.loop-v.invariant.levelled.numbering; cells = w.11.given ∙ c.loop-v.invariant.levelled.cells }) }) (λ w. rw (w.1, w.2, w.3, w.4) (opened_none c.loop-v.invariant c.see-seen.new.stack c.see-seen.ensures c.in-Visit.is (sym c.opens.ensures ∙ w.0.left))) c.if-opens.branch in let v = (visit_ready c.loop-v.invariant c.see-seen.new.stack c.see-seen.ensures c.in-Visit.is j.levels j.rows c.requires.write_ready).0 in passing_visit c.loop-v.invariant c.see-seen.new.stack c.see-seen.ensures c.in-Visit.is c.stack-1.given (visit_added _ v j.opens c.add-progress.ensures) (visit_read _ v j.opens c.add-progress.ensures i.passes) (record { numbering = j.levelled.numbering; cells = j.levelled.cells })
+loop-v-preserved-in-Visit c =
+    let i = c.loop-v.invariant in
+    let j = opened (goal.at.loop-v-preserved-in-Visit c).Joined-opens in
+    let v = (visit_ready i c.see-seen.new.stack c.see-seen.ensures c.in-Visit.is j.levels j.rows c.requires.write_ready).0 in
+    passing_visit i c.see-seen.new.stack c.see-seen.ensures c.in-Visit.is c.stack-1.given (visit_added _ v j.opens c.add-progress.ensures)
+    (visit_read _ v j.opens c.add-progress.ensures i.passes) (record { numbering = j.levelled.numbering; cells = j.levelled.cells })
 
 pub overflow_add-visits-in-LeftOut : goal.overflow_add-visits-in-LeftOut
 overflow_add-visits-in-LeftOut c = omega (arith, passed_few c.loop-v.invariant.walking c.requires.noted.accepted)
