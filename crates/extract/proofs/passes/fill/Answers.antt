@@ -24,11 +24,7 @@ returns-in-Text c =
     record { concludes = rows_written g all e c.if-work-need.false c.if-out-peak.false c.clear-in-Text.ensures c.clear-in-Text-2.ensures; counted = rows_read g all e }
 
 pub returns-in-TooManyLevels : goal.returns-in-TooManyLevels
-returns-in-TooManyLevels c =
-    let all = not_levels c.requires.goes_on c.pass-written.ensures c.in-TooManyLevels.is in
-    record { concludes = all.0; counted = all.1 }
+returns-in-TooManyLevels c = not_levels c.requires.goes_on c.pass-written.ensures c.in-TooManyLevels.is
 
 pub returns-in-TooManyRows : goal.returns-in-TooManyRows
-returns-in-TooManyRows c =
-    let all = not_rows c.requires.goes_on c.pass-written.ensures c.in-TooManyRows.is in
-    record { concludes = all.0; counted = all.1 }
+returns-in-TooManyRows c = not_rows c.requires.goes_on c.pass-written.ensures c.in-TooManyRows.is
