@@ -148,8 +148,8 @@ pub fn decide(
     if o.main_content {
         let body = body_above(s, l, l.root);
         decide_tree(
-            &patterns::table::steps(),
-            &patterns::masks::masks(),
+            patterns::table::lent_steps(),
+            patterns::masks::lent_masks(),
             s,
             l,
             o,

@@ -248,7 +248,14 @@ pub fn matches(pattern: usize, s: &[u8]) -> Matched
     if LAST < pattern {
         return Matched::NoPattern(pattern);
     }
-    if search(&table::steps(), &masks::masks(), pattern, b"", s, s.len()) {
+    if search(
+        table::lent_steps(),
+        masks::lent_masks(),
+        pattern,
+        b"",
+        s,
+        s.len(),
+    ) {
         return Matched::Yes;
     }
     Matched::No

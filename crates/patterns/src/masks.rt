@@ -174,3 +174,10 @@ pub fn masks() -> Masks
 {
     MASKS
 }
+
+// The table where it stands, which takes no room of the caller.
+pub fn lent_masks() -> &'static Masks
+    ensures { MaskTable result.now }
+{
+    &MASKS
+}
