@@ -116,6 +116,7 @@ pub fn clear(out: &mut [u8], at: usize)
 }
 
 // Whether two byte strings are equal.
+#[tactic(auto, using(crate::proofs::Equality::same_length))]
 pub fn same(s: &[u8], t: &[u8]) -> bool
     ensures { result ≡ same s.now t.now }
 {

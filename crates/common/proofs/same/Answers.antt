@@ -1,14 +1,11 @@
 -- `same` meets its contract.
 use mathlib.Core.Path.{refl, sym, ◌∙◌}
 use native.Mathlib.Omega.{arith}
-use Rattle.common.proofs.Equality.{same_length, same_next, same_differs, same_done}
+use Rattle.common.proofs.Equality.{same_next, same_differs, same_done}
 use Rattle.common.proofs.same.Goals as goal
 
-pub returns-then-s-t : goal.returns-then-s-t
-returns-then-s-t c = sym (same_length _ _ c.if-s-t.true)
-
 pub loop-i-init : goal.loop-i-init
-loop-i-init c = (omega arith, c.if-s-t.false, refl)
+loop-i-init c = (omega arith, omega arith, refl)
 
 pub bounds-s-i : goal.bounds-s-i
 bounds-s-i c = omega arith

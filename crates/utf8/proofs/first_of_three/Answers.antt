@@ -4,6 +4,7 @@ use native.Mathlib.Omega.{arith}
 use lib.Dec.{ltb}
 use borrow.Author.Tests.{ltb-true, ltb-false}
 use Rattle.common.proofs.Choice.{by_test}
+use Rattle.utf8.specs.State.{expected_ranges}
 use Rattle.utf8.proofs.Following.{follows}
 use Rattle.utf8.proofs.first_of_three.Goals as goal
 
@@ -11,7 +12,7 @@ pub returns-then-b-eq224 : goal.returns-then-b-eq224
 returns-then-b-eq224 c = follows 0xE0 1 _ refl c.args.b (omega arith) (omega arith)
 
 pub returns-then-b-eq237 : goal.returns-then-b-eq237
-returns-then-b-eq237 c = follows 0xED 1 _ refl c.args.b (omega arith) (omega arith)
+returns-then-b-eq237 c = follows 0xED 1 (expected_ranges 2 0x80 0x9F) refl c.args.b (omega arith) (omega arith)
 
 pub returns : goal.returns
 returns c =
