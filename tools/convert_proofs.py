@@ -1,9 +1,10 @@
 #!/usr/bin/env python3
 """Turns each proofs/F/Proof.antt of an older Rattle into Invariants.antt and Answers.antt.
 
-    python3 tools/convert_proofs.py CRATE..
+    python3 tools/convert_proofs.py [--given] CRATE..
 
-Run at the repository's top, after port.py, with the crates below CRATE proved.
+Run at the repository's top, after port.py, with the crates below CRATE proved. --given: each /tmp/conv-names-CRATE/names.json was made
+before, by a check of the crate over the sources of those below (`rattle check --lib .. --generated DIR --old-names`), proved or not.
 Prints a line for each thing that it leaves, and ends with counts.
 """
 import json
