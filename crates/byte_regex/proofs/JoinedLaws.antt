@@ -32,3 +32,6 @@ module _ (class id : Bytes) (some : length class ≡ 0 → ⊥) where
   joined_back at h =
       let e : at ≡ length class + suc (at - length class - 1) = omega arith in
       ap (λ (l : Bytes). get_or l at 0) (joined_is class id some) ∙ ap (λ (n : ℕ). get_or (class ++ 32 ∷ id) n 0) e ∙ get_or-append-add class (32 ∷ id) (suc (at - length class - 1)) 0
+
+-- all of them
+pub ruleset joined_laws = (joined_alone, joined_length, joined_front, joined_space, joined_back)

@@ -1,5 +1,4 @@
 pub mod ClassLaws
-pub mod CodeLaws
 pub mod JoinedLaws
 pub mod MatchLaws
 pub mod MoveLaws

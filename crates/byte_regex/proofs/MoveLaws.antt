@@ -18,7 +18,7 @@ use Rattle.byte_regex.specs.Meaning.{ahead, mean, still, test_at, holds, step_of
 use Rattle.byte_regex.specs.declared.Move.{Move}
 use Rattle.byte_regex.specs.declared.Move.TheVariants.{Pass, Fail, Go, Try}
 use Rattle.byte_regex.proofs.MatchLaws.{and_left, and_right}
-use Rattle.byte_regex.proofs.StepLaws.{later, step_holds, later_holds, inside_at, inside_table, step_at}
+use Rattle.byte_regex.proofs.StepLaws.{later, step_holds, later_holds, inside_at, inside_table}
 
 still_past : (n : ℕ) → (n ≡ 0 → ⊥) → still true n ≡ false
 still_past zero h = absurd (h refl)
@@ -180,11 +180,9 @@ pub table_long : (codes : List ℕ) → StepTable codes → length (steps_of cod
 table_long codes t = subst (λ (n : ℕ). n ≤ 65536) (sym (length-map codes step_of)) t.short
 
 module _ {codes : List ℕ} {s : Bytes} {first from i at : ℕ} where
-  -- the move that was made, from the two numbers that were read
-  pub moved : StepTable codes → Running (steps_of codes) s first from i at → {code next : ℕ} {move made : Move} → code ≡ get_or codes i 6 → next ≡ get_or codes (i + 1) 6 → move ≡ move_of (step_of code) (step_of next) i s at → move ≡ made → Right (steps_of codes) s i at made
-  moved t r e f m o =
-      subst (Right (steps_of codes) s i at) (sym (m ∙ (λ z. move_of ((ap step_of e ∙ step_at codes i) z) ((ap step_of f ∙ step_at codes (i + 1)) z) i s at)) ∙ o)
-      (move_right s at r.within (steps_of codes) (table_long codes t) i r.inside t.inside)
+  -- the move that was made
+  pub moved : StepTable codes → Running (steps_of codes) s first from i at → {move made : Move} → move ≡ move_of (get_or (steps_of codes) i done) (get_or (steps_of codes) (i + 1) done) i s at → move ≡ made → Right (steps_of codes) s i at made
+  moved t r m o = subst (Right (steps_of codes) s i at) (sym m ∙ o) (move_right s at r.within (steps_of codes) (table_long codes t) i r.inside t.inside)
 
 module _ {p : List Step} {s : Bytes} {first from i at : ℕ} (r : Running p s first from i at) where
   pub run_pass : Right p s i at Pass → true ≡ holds p first s from

@@ -2,13 +2,13 @@
 use mathlib.Core.Path.{◌≡◌, refl, sym, ap, ◌∙◌}
 use mathlib.Core.Bool.{cond}
 use mathlib.Core.List.{List, [], ◌∷◌, ◌++◌, map, append_assoc}
-use Prim.Native.Nat.{ℕ, zero, suc, ◌+◌, ◌-◌, ◌*◌, ◌/◌, ◌%◌, ◌≤◌, ◌<◌}
+use Prim.Native.Nat.{ℕ, zero, suc, ◌+◌, ◌*◌, ◌/◌, ◌%◌, ◌≤◌, ◌<◌}
 use native.Mathlib.Nat.{zero-add, suc-add, add-zero, add-suc}
 use native.Mathlib.Numerals.{add-one}
 use native.Mathlib.Omega.{arith}
 use lib.Arith.{digits_div, digits_mod}
 use lib.Dec.{T, eqb, lit<}
-use lib.ListN.{length, get_or, drop, length-append, length-drop, get_or-map}
+use lib.ListN.{length, get_or, drop, length-append, length-drop}
 use lib.Seq.{get_or-drop}
 use Rattle.common.specs.Bytes.{Bytes}
 use Rattle.byte_regex.specs.Regex.{Class, Regex, exactly, letter, any_blank, any_dash, any_separator, any_hex_digit, nothing, one, many, ◌then◌, ◌or◌, optional, at_start, at_end}
@@ -137,24 +137,3 @@ step_back done = refl
 pub decoded : (p : List Step) → steps_of (map encode p) ≡ p
 decoded [] = refl
 decoded (s ∷ p) = λ z. step_back s z ∷ decoded p z
-
--- 6 is `done`, which stands for what is past the table
-pub step_at : (codes : List ℕ) (i : ℕ) → step_of (get_or codes i 6) ≡ get_or (steps_of codes) i done
-step_at codes i = sym (get_or-map step_of codes i 6)
-
-pub get_d_default : {A : Type 0} (l : List A) (i : ℕ) (d e : A) → i < length l → get_or l i d ≡ get_or l i e
-get_d_default [] i d e h = absurd (omega arith)
-get_d_default (x ∷ l) zero d e h = refl
-get_d_default (x ∷ l) (suc i) d e h = get_d_default l i d e (omega arith)
-
--- ---- the class of a number that is 4 or more
-pub class_exactly : (c : ℕ) → 4 ≤ c → (c - 4) % 2 ≡ 0 → class_of c ≡ exactly ((c - 4) / 2)
-class_exactly c h e =
-    let f : c ≡ suc (suc (suc (suc (c - 4)))) = omega arith in
-    ap class_of f ∙ class_of_more (c - 4) ((c - 4) / 2) 0 e refl
-
-pub class_letter : (c : ℕ) → 4 ≤ c → ((c - 4) % 2 ≡ 0 → ⊥) → class_of c ≡ letter ((c - 4) / 2)
-class_letter c h n =
-    let f : c ≡ suc (suc (suc (suc (c - 4)))) = omega arith in
-    let e : (c - 4) % 2 ≡ 1 = omega arith in
-    ap class_of f ∙ class_of_more (c - 4) ((c - 4) / 2) 1 e refl

@@ -4,6 +4,10 @@ use Rattle.common.specs.Bytes.{Bytes}
 use Rattle.byte_regex.specs.Regex.{Class, exactly, letter, any_blank, any_dash, any_separator, any_hex_digit, in_class}
 use Rattle.byte_regex.specs.Match.{Test, always, takes, repeats, either, if_start, if_end}
 use Rattle.byte_regex.specs.Steps.{Step, take, repeat, fork, skip, first, last, done, stay_inside}
+use Rattle.byte_regex.specs.declared.Class.{Class as ClassRead}
+use Rattle.byte_regex.specs.declared.Class.TheVariants.{Blank, Dash, Separator, HexDigit, Exactly, Letter}
+use Rattle.byte_regex.specs.declared.Step.{Step as StepRead}
+use Rattle.byte_regex.specs.declared.Step.TheVariants.{Take, Repeat, Fork, Skip, First, Last, Done}
 use Rattle.byte_regex.specs.declared.Move.{Move}
 use Rattle.byte_regex.specs.declared.Move.TheVariants.{Pass, Fail, Go, Try}
 
@@ -66,6 +70,24 @@ step_of n = step_of_kind (n % 8) (n / 8)
 
 abbrev pub steps_of : List ℕ → List Step
 steps_of codes = map step_of codes
+
+-- the class and the step that the matcher has read from a number
+abbrev pub class_meant : ClassRead → Class
+class_meant Blank = any_blank
+class_meant Dash = any_dash
+class_meant Separator = any_separator
+class_meant HexDigit = any_hex_digit
+class_meant (Exactly c) = exactly c
+class_meant (Letter c) = letter c
+
+abbrev pub step_meant : StepRead → Step
+step_meant (Take c) = take (class_meant c)
+step_meant (Repeat c) = repeat (class_meant c)
+step_meant (Fork n) = fork n
+step_meant (Skip n) = skip n
+step_meant First = first
+step_meant Last = last
+step_meant Done = done
 
 -- what the matcher asks of a table: it is not too long, and no step leads out of its pattern
 pub record StepTable (codes : List ℕ) : Type 0 where

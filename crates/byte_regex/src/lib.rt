@@ -3,9 +3,10 @@
 
 ghost use Rattle.std.specs.Prelude.{◌≡◌, ◌+◌, ◌≤◌, ◌<◌, get_or, length};
 ghost use Rattle.common.specs.Bytes.{length_limit};
-ghost use Rattle.byte_regex.specs.Regex.{between, in_class, is_dash, is_hex_digit, lower};
+ghost use Rattle.byte_regex.specs.Regex.{in_class, is_dash, is_hex_digit};
+ghost use Rattle.byte_regex.specs.Steps.{done};
 ghost use Rattle.byte_regex.specs.Joined.{joined};
-ghost use Rattle.byte_regex.specs.Meaning.{blocked_of, class_of, holds, move_of, step_of, steps_of, StepTable};
+ghost use Rattle.byte_regex.specs.Meaning.{blocked_of, class_meant, class_of, holds, move_of, step_meant, step_of, steps_of, StepTable};
 
 pub mod theorems;
 
@@ -22,97 +23,113 @@ enum Move {
     Try(usize, usize),
 }
 
-fn wide(x: u8) -> u16
-    ensures { result ≡ x }
-{
-    x as u16
+// A class of bytes.
+#[derive(Clone, Copy)]
+enum Class {
+    // `\s`
+    Blank,
+    // `[_-]`
+    Dash,
+    // `[\s_-]`
+    Separator,
+    // `[a-f0-9]`, in either case
+    HexDigit,
+    // this byte
+    Exactly(u16),
+    // this small letter or its capital
+    Letter(u16),
 }
 
-fn is_between(a: u8, z: u8, x: u8) -> bool
-    ensures { result ≡ between a z x }
-{
-    if a <= x {
-        return x <= z;
+impl Class {
+    // The class of a number of the table.
+    fn of(number: u16) -> Class
+        ensures { class_meant result ≡ class_of number }
+    {
+        match number {
+            0 => Class::Blank,
+            1 => Class::Dash,
+            2 => Class::Separator,
+            3 => Class::HexDigit,
+            _ if number % 2 == 0 => Class::Exactly(number / 2 - 2),
+            _ => Class::Letter(number / 2 - 2),
+        }
     }
-    false
+
+    // Whether a byte is in the class.
+    #[tactic(auto, unfolding(crate::specs::Regex::in_class, crate::specs::Regex::is_hex_digit, crate::specs::Regex::lower))]
+    fn has(self, x: u8) -> bool
+        ensures { result ≡ in_class (class_meant self) x }
+    {
+        match self {
+            Class::Blank => text::is_space(x),
+            Class::Dash => is_dash(x),
+            Class::Separator => text::is_space(x) || is_dash(x),
+            Class::HexDigit => x.is_ascii_hexdigit(),
+            Class::Exactly(byte) => u16::from(x) == byte,
+            Class::Letter(byte) => u16::from(x.to_ascii_lowercase()) == byte,
+        }
+    }
 }
 
-// A capital letter as a small one.
-fn to_lower(x: u8) -> u8
-    ensures { result ≡ lower x }
-{
-    if is_between(65, 90, x) {
-        return x + 32;
+// A step of a table.
+#[derive(Clone, Copy)]
+enum Step {
+    // take a byte of the class
+    Take(Class),
+    // take as many as you like
+    Repeat(Class),
+    // go on here, or so many steps further
+    Fork(u16),
+    // go on so many steps further
+    Skip(u16),
+    // only at the text's start
+    First,
+    // only at its end
+    Last,
+    // the pattern fits
+    Done,
+}
+
+impl Step {
+    // The step of a number of the table.
+    fn of(code: u16) -> Step
+        ensures { step_meant result ≡ step_of code }
+    {
+        let rest = code / 8;
+        match code % 8 {
+            0 => Step::Take(Class::of(rest)),
+            1 => Step::Repeat(Class::of(rest)),
+            2 => Step::Fork(rest),
+            3 => Step::Skip(rest),
+            4 => Step::First,
+            5 => Step::Last,
+            _ => Step::Done,
+        }
     }
-    x
 }
 
 // `[_-]`.
+#[tactic(auto, unfolding(crate::specs::Regex::is_dash))]
 fn is_dash(x: u8) -> bool
     ensures { result ≡ is_dash x }
 {
-    if x == b'-' {
-        return true;
-    }
-    x == b'_'
-}
-
-// `[a-f0-9]`, in either case.
-fn is_hex_digit(x: u8) -> bool
-    ensures { result ≡ is_hex_digit x }
-{
-    if is_between(b'0', b'9', x) {
-        return true;
-    }
-    is_between(b'a', b'f', to_lower(x))
-}
-
-// A class that is no single byte or letter.
-fn in_set(class: u16, x: u8) -> bool
-    requires { class < 4 }
-    ensures { result ≡ in_class (class_of class) x }
-{
-    if class == 0 {
-        return text::is_space(x);
-    }
-    if class == 1 {
-        return is_dash(x);
-    }
-    if class == 3 {
-        return is_hex_digit(x);
-    }
-    if text::is_space(x) {
-        return true;
-    }
-    is_dash(x)
-}
-
-// Whether a byte is in the class of a number of the table.
-fn in_class(class: u16, x: u8) -> bool
-    ensures { result ≡ in_class (class_of class) x }
-{
-    if class < 4 {
-        return in_set(class, x);
-    }
-    let n = class - 4;
-    if n % 2 == 0 {
-        return wide(x) == n / 2;
-    }
-    wide(to_lower(x)) == n / 2
+    matches!(x, b'-' | b'_')
 }
 
 // How long class and id are as one text.
+#[tactic(auto, using(crate::proofs::JoinedLaws::joined_laws))]
 pub fn size(class: &[u8], id: &[u8]) -> usize
     requires { length class.now + length id.now < length_limit }
     ensures { result ≡ length (joined class.now id.now) }
 {
-    if class.len() == 0 {
+    if class.is_empty() {
         return id.len();
     }
     class.len() + 1 + id.len()
 }
 
 // The byte at a place of that text.
+#[tactic(auto, using(crate::proofs::JoinedLaws::joined_laws))]
 pub fn byte(class: &[u8], id: &[u8], at: usize) -> u8
     requires { at < length (joined class.now id.now) }
     ensures { result ≡ get_or (joined class.now id.now) at 0 }
@@ -120,7 +137,7 @@ pub fn byte(class: &[u8], id: &[u8], at: usize) -> u8
     if at < class.len() {
         return class[at];
     }
-    if class.len() == 0 {
+    if class.is_empty() {
         return id[at];
     }
     if at == class.len() {
@@ -129,79 +146,61 @@ pub fn byte(class: &[u8], id: &[u8], at: usize) -> u8
     id[at - class.len() - 1]
 }
 
-// Whether the byte at a place is in that class.
-fn takes(code: u16, class: &[u8], id: &[u8], at: usize) -> bool
-    requires { at < length (joined class.now id.now) }
-    ensures { result ≡ in_class (class_of code) (get_or (joined class.now id.now) at 0) }
+// The step at a place of the table; past it `Done`.
+fn step_at(steps: &[u16], i: usize) -> Step
+    ensures { step_meant result ≡ get_or (steps_of steps.now) i done }
 {
-    in_class(code, byte(class, id, at))
+    match steps.get(i) {
+        Some(&code) => Step::of(code),
+        None => Step::Done,
+    }
 }
 
 // Whether a step fails at a place by itself, whatever the steps behind it say.
-fn blocked(code: u16, class: &[u8], id: &[u8], n: usize, at: usize) -> bool
+#[tactic(auto, unfolding(crate::specs::Meaning::blocked_of))]
+fn blocked(step: Step, class: &[u8], id: &[u8], n: usize, at: usize) -> bool
     requires { (at ≤ n) × (n ≡ length (joined class.now id.now)) }
-    ensures { result ≡ blocked_of (step_of code) (joined class.now id.now) at }
+    ensures { result ≡ blocked_of (step_meant step) (joined class.now id.now) at }
 {
-    let kind = code % 8;
-    if kind == 0 {
-        if at == n {
-            return true;
-        }
-        return !takes(code / 8, class, id, at);
+    match step {
+        Step::Take(set) => at == n || !set.has(byte(class, id, at)),
+        Step::First => at != 0,
+        Step::Last => at != n,
+        _ => false,
     }
-    if kind == 4 {
-        return at != 0;
-    }
-    if kind == 5 {
-        return at != n;
-    }
-    false
 }
 
-// Where a step leads from a place. `next` is the step behind it.
-fn advance(code: u16, next: u16, i: usize, class: &[u8], id: &[u8], n: usize, at: usize) -> Move
+// Where a step leads from a place.
+#[tactic(auto, unfolding(crate::specs::Meaning::blocked_of, crate::specs::Meaning::free_move, crate::specs::Meaning::move_of))]
+fn advance(steps: &[u16], i: usize, class: &[u8], id: &[u8], n: usize, at: usize) -> Move
     requires { (i < 65536) × (at ≤ n) × (n ≡ length (joined class.now id.now)) }
-    ensures { result ≡ move_of (step_of code) (step_of next) i (joined class.now id.now) at }
+    ensures { result ≡ move_of (get_or (steps_of steps.now) i done) (get_or (steps_of steps.now) (i + 1) done) i (joined class.now id.now) at }
 {
-    if blocked(code, class, id, n, at) {
+    let step = step_at(steps, i);
+    if blocked(step, class, id, n, at) {
         return Move::Fail;
     }
-    let kind = code % 8;
-    if kind == 0 {
-        return Move::Go(i + 1, at + 1);
-    }
-    if kind == 1 {
-        if at == n {
-            return Move::Go(i + 1, at);
+    match step {
+        Step::Take(_) => Move::Go(i + 1, at + 1),
+        Step::Repeat(set) => {
+            if at < n && set.has(byte(class, id, at)) {
+                Move::Try(i, at + 1)
+            } else {
+                Move::Go(i + 1, at)
+            }
         }
-        if takes(code / 8, class, id, at) {
-            return Move::Try(i, at + 1);
+        Step::Fork(far) => {
+            let next = step_at(steps, i + 1);
+            if blocked(next, class, id, n, at) {
+                Move::Go(i + 1 + usize::from(far), at)
+            } else {
+                Move::Try(i + 1 + usize::from(far), at)
+            }
         }
-        return Move::Go(i + 1, at);
+        Step::Skip(far) => Move::Go(i + 1 + usize::from(far), at),
+        Step::First | Step::Last => Move::Go(i + 1, at),
+        Step::Done => Move::Pass,
     }
-    if kind == 2 {
-        if blocked(next, class, id, n, at) {
-            return Move::Go(i + 1 + (code / 8) as usize, at);
-        }
-        return Move::Try(i + 1 + (code / 8) as usize, at);
-    }
-    if kind == 3 {
-        return Move::Go(i + 1 + (code / 8) as usize, at);
-    }
-    if kind < 6 {
-        return Move::Go(i + 1, at);
-    }
-    Move::Pass
-}
-
-// A step's number; past the table that of `done`.
-fn code_at(steps: &[u16], i: usize) -> u16
-    ensures { result ≡ get_or steps.now i 6 }
-{
-    if i < steps.len() {
-        return steps[i];
-    }
-    6
 }
 
 // Whether the steps from `first` on hold at the place `from`.
@@ -212,16 +211,7 @@ pub fn run(steps: &[u16], first: usize, class: &[u8], id: &[u8], n: usize, from:
     let mut i = first;
     let mut at = from;
     loop {
-        let m = advance(
-            code_at(steps, i),
-            code_at(steps, i + 1),
-            i,
-            class,
-            id,
-            n,
-            at,
-        );
-        match m {
+        match advance(steps, i, class, id, n, at) {
             Move::Pass => return true,
             Move::Fail => return false,
             Move::Go(step, place) => {

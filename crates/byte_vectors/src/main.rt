@@ -3,7 +3,7 @@
 // as long as the need, one shorter and three longer: the number, the second number, the length and the buffer.
 #![tactic(auto)]
 
-use common::Written;
+use common::TooShort;
 use std::io;
 use std::io::Print;
 
@@ -15,18 +15,8 @@ fn number<P: Print>(to: &P, n: usize) -> io::Result<()> {
     print!(to; " {n}")
 }
 
-fn digit(n: u8) -> u8 {
-    if n < 10 {
-        return 48 + n;
-    }
-    if n < 16 {
-        return 87 + n;
-    }
-    63
-}
-
 fn byte<P: Print>(to: &P, b: u8) -> io::Result<()> {
-    print(to, &[digit(b / 16), digit(b % 16)])
+    print!(to; "{b:02x}")
 }
 
 fn bytes<P: Print>(to: &P, s: &[u8]) -> io::Result<()> {
@@ -36,14 +26,14 @@ fn bytes<P: Print>(to: &P, s: &[u8]) -> io::Result<()> {
     Ok(())
 }
 
-fn written<P: Print>(to: &P, w: Written, out: &[u8]) -> io::Result<()> {
+fn written<P: Print>(to: &P, w: Result<usize, TooShort>, out: &[u8]) -> io::Result<()> {
     match w {
-        Written::Text(n) => {
+        Ok(n) => {
             number(to, 0)?;
             number(to, 0)?;
             number(to, n)?;
         }
-        Written::TooShort(need) => {
+        Err(TooShort { need }) => {
             number(to, 32)?;
             number(to, need)?;
             number(to, 0)?;
@@ -53,71 +43,47 @@ fn written<P: Print>(to: &P, w: Written, out: &[u8]) -> io::Result<()> {
     bytes(to, out)
 }
 
-fn need_of(w: Written) -> usize {
+fn need_of(w: Result<usize, TooShort>) -> usize {
     match w {
-        Written::Text(n) => n,
-        Written::TooShort(n) => n,
+        Ok(n) => n,
+        Err(TooShort { need }) => need,
     }
 }
 
-fn collapse_to<P: Print>(to: &P, s: &[u8], out: &mut [u8]) -> io::Result<()> {
-    let w = text::collapse(s, out);
-    written(to, w, out)
-}
-
-fn collapse_part<P: Print>(to: &P, s: &[u8], out: &mut [u8], room: usize) -> io::Result<()> {
+// `collapse` or `escape` as f, into a buffer of 0xEE of so many bytes.
+fn write_into<P: Print, F: Fn(&[u8], &mut [u8]) -> Result<usize, TooShort>>(
+    to: &P,
+    f: &F,
+    s: &[u8],
+    room: usize,
+) -> io::Result<()>
+    requires { F.IsAlwaysCallable f.now }
+{
+    let mut out = [0xEEu8; 256];
     if room <= out.len() {
-        collapse_to(to, s, &mut out[..room])?;
+        let part = &mut out[..room];
+        let w = f(s, part);
+        written(to, w, part)?;
     }
     Ok(())
 }
 
-fn collapse_into<P: Print>(to: &P, s: &[u8], room: usize) -> io::Result<()> {
-    let mut out = [0xEEu8; 256];
-    collapse_part(to, s, &mut out, room)
-}
-
-fn escape_to<P: Print>(to: &P, s: &[u8], out: &mut [u8]) -> io::Result<()> {
-    let w = text::escape(s, out);
-    written(to, w, out)
-}
-
-fn escape_part<P: Print>(to: &P, s: &[u8], out: &mut [u8], room: usize) -> io::Result<()> {
-    if room <= out.len() {
-        escape_to(to, s, &mut out[..room])?;
-    }
-    Ok(())
-}
-
-fn escape_into<P: Print>(to: &P, s: &[u8], room: usize) -> io::Result<()> {
-    let mut out = [0xEEu8; 256];
-    escape_part(to, s, &mut out, room)
-}
-
-fn collapse<P: Print>(to: &P, s: &[u8]) -> io::Result<()> {
+// Into one that is exactly as long as the need, one shorter and three longer.
+fn write_all<P: Print, F: Fn(&[u8], &mut [u8]) -> Result<usize, TooShort>>(
+    to: &P,
+    f: &F,
+    s: &[u8],
+) -> io::Result<()>
+    requires { F.IsAlwaysCallable f.now }
+{
     let mut none = [0u8; 0];
-    let need = need_of(text::collapse(s, &mut none));
-    print(to, b" collapse")?;
-    collapse_into(to, s, need)?;
+    let need = need_of(f(s, &mut none));
+    write_into(to, f, s, need)?;
     if 0 < need {
-        collapse_into(to, s, need - 1)?;
+        write_into(to, f, s, need - 1)?;
     }
     if need < 253 {
-        collapse_into(to, s, need + 3)?;
-    }
-    Ok(())
-}
-
-fn escape<P: Print>(to: &P, s: &[u8]) -> io::Result<()> {
-    let mut none = [0u8; 0];
-    let need = need_of(text::escape(s, &mut none));
-    print(to, b" escape")?;
-    escape_into(to, s, need)?;
-    if 0 < need {
-        escape_into(to, s, need - 1)?;
-    }
-    if need < 253 {
-        escape_into(to, s, need + 3)?;
+        write_into(to, f, s, need + 3)?;
     }
     Ok(())
 }
@@ -132,8 +98,10 @@ fn show<P: Print>(to: &P, s: &[u8]) -> io::Result<()> {
     number(to, text::rstrip(s))?;
     print(to, b" ")?;
     bytes(to, text::trim(s))?;
-    collapse(to, s)?;
-    escape(to, s)?;
+    print(to, b" collapse")?;
+    write_all(to, &text::collapse, s)?;
+    print(to, b" escape")?;
+    write_all(to, &text::escape, s)?;
     print(to, b"\n")
 }
 

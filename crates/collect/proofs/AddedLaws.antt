@@ -1,4 +1,5 @@
 -- What a visit adds, by the tests that choose it.
+use mathlib.Core.Logic.{◌⊎◌, inl, inr}
 use mathlib.Core.Path.{◌≡◌, refl, sym, ap, ◌∙◌}
 use mathlib.Core.Bool.{Bool, true, false, ◌&&◌, ◌||◌, not, cond, and-false}
 use mathlib.Core.List.{[], ◌∷◌, ◌++◌}
@@ -45,11 +46,9 @@ empty_not (c ∷ s) n = refl
 -- ---- a link, whose address trims to h
 
 module _ {f : Formatting} (end : Bool) {h : Bytes} (href : Bytes) (h_is : h ≡ trim href) where
-  pub link_off : f ≡ Off → link_text f end href ≡ cond end (codes " (" ++ (h ++ codes ")")) []
-  link_off e = rw (e, h_is)
-
-  pub link_basic : f ≡ Basic → link_text f end href ≡ cond end (codes " (" ++ (h ++ codes ")")) []
-  link_basic e = rw (e, h_is)
+  pub link_plain : (f ≡ Off) ⊎ (f ≡ Basic) → link_text f end href ≡ cond end (codes " (" ++ (h ++ codes ")")) []
+  link_plain (inl e) = rw (e, h_is)
+  link_plain (inr e) = rw (e, h_is)
 
   pub link_html : f ≡ MinimalHtml → link_text f end href ≡ cond end (codes "</a>") (codes "<a href=\"" ++ (escape h ++ codes "\">"))
   link_html e = rw (e, h_is)

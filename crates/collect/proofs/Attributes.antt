@@ -1,6 +1,6 @@
 -- An attribute of a visit's row: its range, and its value.
+use Rattle.std.specs.Prelude.{Option, None, Some, unwrap_or}
 use mathlib.Core.Path.{◌≡◌, refl, sym, ap, ap₂, subst, ◌∙◌}
-use mathlib.Core.Option.{Option, get_or}
 use Prim.Native.Nat.{ℕ, ◌+◌, ◌≤◌}
 use Rattle.common.specs.Bytes.{Bytes, codes}
 use Rattle.options.specs.declared.ExtractOptions.{ExtractOptions}
@@ -11,8 +11,7 @@ use Rattle.sheet.specs.declared.line.Row.{Row}
 use Rattle.tree.specs.Attributes.{find_of, value_in, RangeInside, range_of}
 use Rattle.tree.specs.Node.{attribute, or_empty}
 use Rattle.tree.specs.Page.{node_at}
-use Rattle.tree.specs.declared.attributes.AttributeAt.{AttributeAt}
-use Rattle.tree.specs.declared.attributes.AttributeAt.TheVariants.{Absent, At}
+use Rattle.tree.specs.declared.attributes.Span.{Span}
 use Rattle.tree.proofs.AttributeLines.{counts_fit, find_inside}
 use Rattle.tree.proofs.SheetLaws.{range_is_value}
 use Rattle.html2text.specs.Collect.{attr, missing_alt, alt_text}
@@ -24,10 +23,10 @@ module _ {s : Bytes} {l : Layout} {v : Visit} (p : Visits s l v) where
     pub lines_fit : v.first + r.attributes ≤ l.attributes
     lines_fit = rw p.first_is (counts_fit s l p.accepted v.row p.inside r_is)
 
-    pub range_found : {x : AttributeAt} (name : Bytes) → x ≡ find_of s l name v.first r.attributes → x ≡ range_of s l v.row name
+    pub range_found : {x : Option Span} (name : Bytes) → x ≡ find_of s l name v.first r.attributes → x ≡ range_of s l v.row name
     range_found name f = f ∙ ap₂ (λ (first count : ℕ). find_of s l name first count) p.first_is (ap (λ (q : Row). q.attributes) r_is)
 
-  module _ {x : AttributeAt} (name : Bytes) (x_is : x ≡ range_of s l v.row name) where
+  module _ {x : Option Span} (name : Bytes) (x_is : x ≡ range_of s l v.row name) where
     pub range_inside : RangeInside l x
     range_inside =
         subst (RangeInside l) (sym x_is)
@@ -40,17 +39,17 @@ module _ {s : Bytes} {l : Layout} {v : Visit} (p : Visits s l v) where
     pub attr_found : or_empty (value_in s l x) ≡ attr (node_at s l v.row) name
     attr_found = ap or_empty value_found
 
-    pub inside_at : {at len : ℕ} → x ≡ At at len → at + len ≤ l.pool
+    pub inside_at : {a : Span} → x ≡ Some a → a.at + a.len ≤ l.pool
     inside_at e = subst (RangeInside l) e range_inside
 
   -- an img's or area's alt, by its range
-  module _ {x : AttributeAt} (x_is : x ≡ range_of s l v.row (codes "alt")) (o : ExtractOptions) where
-    alt_is : {y : AttributeAt} → x ≡ y → alt_text o (node_at s l v.row) ≡ get_or (value_in s l y) (missing_alt o.missing_alt)
+  module _ {x : Option Span} (x_is : x ≡ range_of s l v.row (codes "alt")) (o : ExtractOptions) where
+    alt_is : {y : Option Span} → x ≡ y → alt_text o (node_at s l v.row) ≡ unwrap_or (value_in s l y) (missing_alt o.missing_alt)
     alt_is e =
-        ap (λ (a : Option Bytes). get_or a (missing_alt o.missing_alt)) (sym (value_found (codes "alt") x_is) ∙ ap (value_in s l) e)
+        ap (λ (a : Option Bytes). unwrap_or a (missing_alt o.missing_alt)) (sym (value_found (codes "alt") x_is) ∙ ap (value_in s l) e)
 
-    pub alt_absent : x ≡ Absent → alt_text o (node_at s l v.row) ≡ missing_alt o.missing_alt
+    pub alt_absent : x ≡ None → alt_text o (node_at s l v.row) ≡ missing_alt o.missing_alt
     alt_absent e = alt_is e
 
-    pub alt_at : {at len : ℕ} {t : Bytes} → x ≡ At at len → t ≡ range s l at len → alt_text o (node_at s l v.row) ≡ t
+    pub alt_at : {a : Span} {t : Bytes} → x ≡ Some a → t ≡ range s l a.at a.len → alt_text o (node_at s l v.row) ≡ t
     alt_at e t_is = alt_is e ∙ sym t_is

@@ -1,4 +1,5 @@
 -- How many bytes are read of what a visit adds, by the tests that choose it.
+use mathlib.Core.Logic.{◌⊎◌, inl, inr}
 use mathlib.Core.Path.{◌≡◌, refl, ap, ◌∙◌}
 use mathlib.Core.Bool.{Bool, true, false, ◌&&◌, ◌||◌, not, cond, or-true, or-false, and-false}
 use mathlib.Core.List.{[]}
@@ -59,11 +60,9 @@ read_empty w escaped s e = rw e (go w.dropped (w.escapes || escaped))
 -- ---- a link, whose address trims to h
 
 module _ {f : Formatting} (end : Bool) (w : Showing) {h : Bytes} (href : Bytes) (h_is : h ≡ trim href) where
-  pub link_read_off : f ≡ Off → link_read f end w href ≡ 0
-  link_read_off e = rw e
-
-  pub link_read_basic : f ≡ Basic → link_read f end w href ≡ 0
-  link_read_basic e = rw e
+  pub link_read_plain : (f ≡ Off) ⊎ (f ≡ Basic) → link_read f end w href ≡ 0
+  link_read_plain (inl e) = rw e
+  link_read_plain (inr e) = rw e
 
   pub link_read_html : f ≡ MinimalHtml → link_read f end w href ≡ cond end 0 (read_of w true h)
   link_read_html e = rw (e, h_is)

@@ -19,10 +19,10 @@ use serializer::Progress;
 use serializer::texts::{say, show};
 use sheet::line::Layout;
 use sheet::read::{part, row_at};
-use tree::attributes::{AttributeAt, find, or_empty};
+use tree::attributes::{Span, find, or_empty};
 
 // The attribute of that name, or that there is none.
-fn attribute(s: &[u8], l: Layout, v: Visit, name: &[u8]) -> AttributeAt
+fn attribute(s: &[u8], l: Layout, v: Visit, name: &[u8]) -> Option<Span>
     requires { Visits s.now l v }
     ensures { result ≡ range_of s.now l v.row name.now }
 {
@@ -114,8 +114,7 @@ fn put_link(
     let href = text::trim(attribute_or_empty(s, l, v, b"href"));
     let f = o.formatting;
     match f {
-        Formatting::Off => put_address(o, p, href, v.end, out, write),
-        Formatting::Basic => put_address(o, p, href, v.end, out, write),
+        Formatting::Off | Formatting::Basic => put_address(o, p, href, v.end, out, write),
         Formatting::MinimalHtml => put_link_tag(o, p, href, v.end, out, write),
     }
 }
@@ -146,10 +145,11 @@ fn field_value(s: &[u8], l: Layout, v: Visit) -> &[u8]
     ensures { result.now ≡ field_value (node_at s.now l v.row) }
 {
     let value = attribute_or_empty(s, l, v, b"value");
-    if text::trim(value).len() == 0 {
-        return attribute_or_empty(s, l, v, b"placeholder");
+    if text::trim(value).is_empty() {
+        attribute_or_empty(s, l, v, b"placeholder")
+    } else {
+        value
     }
-    value
 }
 
 fn put_field(
@@ -166,7 +166,7 @@ fn put_field(
     ensures { Shows o.formatting o.list_bullets write p out.old result out.new (field_text (node_at s.now l v.row)) (field_read p.showing (node_at s.now l v.row)) }
 {
     let value = text::trim(field_value(s, l, v));
-    if value.len() == 0 {
+    if value.is_empty() {
         return p;
     }
     put_between(o, p, b"[ ", value, false, b" ] ", out, write)
@@ -219,11 +219,10 @@ fn put_alt(
     ensures { Shows o.formatting o.list_bullets write p out.old result out.new (alt_text o (node_at s.now l v.row)) (read_of p.showing false (alt_text o (node_at s.now l v.row))) }
 {
     match attribute(s, l, v, b"alt") {
-        AttributeAt::Absent => put_missing_alt(o, p, out, write),
-        AttributeAt::At { at, len } => {
-            let f = o.formatting;
-            let alt = part(s, l, at, len);
-            show(f, o.list_bullets, p, alt, false, out, write)
+        None => put_missing_alt(o, p, out, write),
+        Some(a) => {
+            let alt = part(s, l, a.at, a.len);
+            show(o.formatting, o.list_bullets, p, alt, false, out, write)
         }
     }
 }

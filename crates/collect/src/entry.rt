@@ -1,5 +1,5 @@
 // Whether a visit opens an entry, and the one that it opens.
-ghost use Rattle.std.specs.Prelude.{◌&&◌, not, ◌≡◌, ◌<◌};
+ghost use Rattle.std.specs.Prelude.{◌&&◌, ◌≡◌, ◌<◌};
 ghost use Rattle.common.specs.Bytes.{length_limit};
 ghost use Rattle.html2text.specs.Collect.{is_link, marked, pre_depth_of};
 ghost use Rattle.options.specs.Options.{is_minimal_html};
@@ -14,16 +14,13 @@ fn pre_depth(tag: u8, end: bool, before: usize) -> usize
     requires { before < length_limit }
     ensures { result ≡ pre_depth_of tag end before }
 {
-    if is_pre(tag) {
-        if end {
-            if before == 0 {
-                return 0;
-            }
-            return before - 1;
-        }
-        return before + 1;
+    if !is_pre(tag) {
+        before
+    } else if end {
+        before.saturating_sub(1)
+    } else {
+        before + 1
     }
-    before
 }
 
 // `ExtractNode { .. }`; before is the pre_depth of the entry before.
@@ -32,27 +29,17 @@ fn pushed_node(o: ExtractOptions, before: usize, v: Visit) -> ExtractNode
     ensures { result ≡ node_of o before v }
 {
     let f = o.formatting;
-    let depth = pre_depth(v.tag, v.end, before);
-    let block = is_block(v.tag);
-    let big_block = is_big_block(v.tag);
-    let escape = f.is_minimal_html();
     ExtractNode {
         tag: v.tag,
         has_children: v.children,
         depth: v.depth,
-        pre_depth: depth,
+        pre_depth: pre_depth(v.tag, v.end, before),
         collapse_margins: true,
-        block,
-        big_block,
+        block: is_block(v.tag),
+        big_block: is_big_block(v.tag),
         end: v.end,
-        escape,
+        escape: f.is_minimal_html(),
     }
-}
-
-fn and_not(a: bool, b: bool) -> bool
-    ensures { result ≡ (a && not b) }
-{
-    a && !b
 }
 
 fn is_link_tag(o: ExtractOptions, tag: u8) -> bool
@@ -66,19 +53,11 @@ fn is_link_tag(o: ExtractOptions, tag: u8) -> bool
 fn marked_node(o: ExtractOptions, tag: u8, n: ExtractNode) -> ExtractNode
     ensures { result ≡ marked o tag n }
 {
-    let collapse_margins = and_not(n.collapse_margins, is_break(o, tag));
-    let block = and_not(n.block, is_link(o, tag));
-    let escape = and_not(n.escape, is_link_tag(o, tag));
     ExtractNode {
-        tag: n.tag,
-        has_children: n.has_children,
-        depth: n.depth,
-        pre_depth: n.pre_depth,
-        collapse_margins,
-        block,
-        big_block: n.big_block,
-        end: n.end,
-        escape,
+        collapse_margins: n.collapse_margins && !is_break(o, tag),
+        block: n.block && !is_link(o, tag),
+        escape: n.escape && !is_link_tag(o, tag),
+        ..n
     }
 }
 
@@ -87,16 +66,12 @@ pub fn node_of(o: ExtractOptions, before: usize, v: Visit) -> ExtractNode
     requires { before < length_limit }
     ensures { result ≡ marked o v.tag (node_of o before v) }
 {
-    let pushed = pushed_node(o, before, v);
-    marked_node(o, v.tag, pushed)
+    marked_node(o, v.tag, pushed_node(o, before, v))
 }
 
 // Whether a visit opens an entry; any: whether one is open, at depth last.
 pub fn opens(o: ExtractOptions, any: bool, last: usize, v: Visit) -> bool
     ensures { result ≡ opens_on o any last v }
 {
-    if !any {
-        return true;
-    }
-    pushes_after(o, last, v.tag, v.depth)
+    !any || pushes_after(o, last, v.tag, v.depth)
 }

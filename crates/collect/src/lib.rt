@@ -7,7 +7,7 @@ pub mod tests;
 
 // A row at its beginning or at its end: its number, the number of its tag, its first attribute line and where its value lies; whether it
 // has children, and its depth below the root.
-#[derive(Clone, Copy)]
+#[derive(Clone, Copy, Debug, PartialEq, Eq)]
 pub struct Visit {
     pub row: usize,
     pub first: usize,

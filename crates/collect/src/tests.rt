@@ -15,13 +15,7 @@ pub fn is_block(tag: u8) -> bool
 pub fn is_big_block(tag: u8) -> bool
     ensures { result ≡ is_big_block tag }
 {
-    if tags::H1 <= tag {
-        if tag <= tags::H4 {
-            return true;
-        }
-        return tag == tags::P;
-    }
-    tag == tags::P
+    (tags::H1 <= tag && tag <= tags::H4) || tag == tags::P
 }
 
 pub fn is_pre(tag: u8) -> bool
@@ -67,14 +61,5 @@ fn is_textarea_or_cell(tag: u8) -> bool
 pub fn pushes_after(o: ExtractOptions, last: usize, tag: u8, depth: usize) -> bool
     ensures { result ≡ pushes_after o last tag depth }
 {
-    if is_block(tag) {
-        return true;
-    }
-    if depth < last {
-        return true;
-    }
-    if is_link(o, tag) {
-        return true;
-    }
-    is_textarea_or_cell(tag)
+    is_block(tag) || depth < last || is_link(o, tag) || is_textarea_or_cell(tag)
 }

@@ -1,13 +1,12 @@
 -- `same` is equality of byte strings, and is told byte by byte.
 use mathlib.Core.Path.{◌≡◌, refl, ap, ap₂}
-use mathlib.Core.Bool.{Bool, true, false}
+use mathlib.Core.Bool.{true, false}
 use mathlib.Core.List.{[], ◌∷◌}
-use Prim.Native.Nat.{ℕ, ◌+◌, ◌≤◌, ◌<◌}
-use native.Mathlib.Numerals.{add-one}
+use Prim.Native.Nat.{ℕ}
 use lib.Dec.{eqb}
-use lib.ListN.{length, drop, get_or, drop_of_length-le}
-use lib.Seq.{drop-cons}
-use borrow.Author.Tests.{eq-eqb, ne_eqb, eqb-true}
+use lib.Pointwise.{pointwise}
+use lib.ListN.{length}
+use borrow.Author.Tests.{eq-eqb, eqb-true}
 use Rattle.common.specs.Bytes.{Bytes, same}
 use Rattle.common.proofs.Choice.{by_test, absurd_test}
 
@@ -32,20 +31,13 @@ same_of s t e = rw e (same_refl t)
 pub same_not : (s t : Bytes) → (s ≡ t → ⊥) → same s t ≡ false
 same_not s t n = by_test (same s t) (λ e. absurd (n (same_true s t e))) (λ e. e)
 
--- ---- byte by byte
+-- `==` of two slices
+pub same_pointwise : (s t : Bytes) → pointwise eqb s t ≡ same s t
+unfolding same
+same_pointwise [] [] = refl
+same_pointwise [] (d ∷ t) = refl
+same_pointwise (c ∷ s) [] = refl
+same_pointwise (c ∷ s) (d ∷ t) = by_test (eqb c d) (λ e. rw (e, same) (same_pointwise s t)) (λ e. rw (e, same))
 
 pub same_length : (s t : Bytes) → (length s ≡ length t → ⊥) → same s t ≡ false
 same_length s t n = same_not s t (λ e. n (ap length e))
-
-module _ (s t : Bytes) (i : ℕ) (h : i < length s) (k : i < length t) where
-  pub same_next : get_or s i 0 ≡ get_or t i 0 → same (drop i s) (drop i t) ≡ same (drop (i + 1) s) (drop (i + 1) t)
-  unfolding same
-  same_next e = rw (add-one, drop-cons s i 0 h, drop-cons t i 0 k, eq-eqb (get_or s i 0) (get_or t i 0) e, same)
-
-  pub same_differs : (get_or s i 0 ≡ get_or t i 0 → ⊥) → same (drop i s) (drop i t) ≡ false
-  unfolding same
-  same_differs n = rw (drop-cons s i 0 h, drop-cons t i 0 k, ne_eqb (get_or s i 0) (get_or t i 0) n, same)
-
-pub same_done : (s t : Bytes) (i : ℕ) → length s ≤ i → length t ≤ i → same (drop i s) (drop i t) ≡ true
-unfolding same
-same_done s t i h k = rw (drop_of_length-le s {i = i} h, drop_of_length-le t {i = i} k)

@@ -4,6 +4,7 @@ pub mod Equality
 pub mod Every
 pub mod LanesLaws
 pub mod Parts
+pub mod PassedOn
 pub mod Puts
 pub mod TestLaws
 pub mod Words

@@ -1,12 +1,12 @@
 -- Stores one after the other: what a run of them leaves in the buffer, and a loop that makes them.
 use mathlib.Core.Path.{◌≡◌, refl, sym, ap, ◌∙◌}
-use mathlib.Core.List.{List, [], ◌∷◌, ◌++◌, append-nil}
-use Prim.Native.Nat.{ℕ, suc, ◌+◌, ◌-◌, ◌≤◌, ◌<◌}
+use mathlib.Core.List.{[], ◌∷◌, ◌++◌}
+use Rattle.std.proofs.Common.{append_assoc}
+use Prim.Native.Nat.{ℕ, suc, ◌+◌, ◌-◌, ◌≤◌}
 use native.Mathlib.Nat.{add-zero, zero-add, add-suc, suc-add}
 use native.Mathlib.Omega.{arith}
-use native.Mathlib.Numerals.{add-one}
-use lib.ListN.{length, set, take, drop, get_or, replicate, length-append, length-set, drop_of_length-le}
-use lib.Seq.{sets, sets-eq, length-sets, drop-cons, take-suc-set, take-append-le, take-length, take_all, append_snoc, take_at}
+use lib.ListN.{length, set, take, drop, replicate, length-append}
+use lib.Seq.{sets, sets-eq, length-sets, drop-drop, take_at}
 use Rattle.common.specs.Bytes.{Bytes, padded}
 use Rattle.common.specs.Puts.{Puts}
 
@@ -31,6 +31,13 @@ module _ {before : Bytes} {at : ℕ} where
   -- one byte
   pub puts_one : (x : ℕ) {past : ℕ} → past ≡ at + 1 → Puts before at (x ∷ []) (set before at x) past
   puts_one x e = record { bytes = refl; place = e }
+
+-- all at once: a part as long as the text becomes the text
+pub puts_part : (before : Bytes) (at : ℕ) (text : Bytes) → at + length text ≤ length before
+    → Puts before at text (take at before ++ (text ++ drop (at + length text - at) (drop at before))) (at + length text)
+puts_part before at text h =
+    let n : at + length text - at ≡ length text = omega arith in
+    record { bytes = rw (n, drop-drop (length text) at before, ← append_assoc) (sym (sets-eq text before at h)); place = refl }
 
 -- ---- a loop: what is still to be stored, stored from here on, gives what the whole gives
 pub record Putting (before : Bytes) (at : ℕ) (text : Bytes) (out : Bytes) (here : ℕ) (left : Bytes) : Type 0 where
@@ -63,14 +70,3 @@ puts_padded {before} {text} {after} {past} p h =
     let past_is : past ≡ length text = p.place ∙ zero-add (length text) in
     let fits : 0 + length text ≤ length before = omega arith in
     rw (puts_length p, past_is, p.bytes, sets-eq text before 0 fits) (ap (λ (s : Bytes). s ++ replicate (length before - length text) 0) (take_at text _ (length text) refl))
-
--- zeros from `at` on, one at a time
-pub clear_more : (out : Bytes) (i : ℕ) → i < length out → take (i + 1) (set out i 0) ++ replicate (length (set out i 0) - (i + 1)) 0 ≡ take i out ++ replicate (length out - i) 0
-clear_more out i h =
-    let e : length out - i ≡ suc (length out - suc i) = omega arith in
-    rw (add-one, length-set, take-suc-set out i 0 h, e) (append_snoc (take i out) 0 (replicate (length out - suc i) 0))
-
-pub clear_end : (out : Bytes) (i : ℕ) → length out ≤ i → take i out ++ replicate (length out - i) 0 ≡ out
-clear_end out i h =
-    let e : length out - i ≡ 0 = omega arith in
-    rw (e, take_all i out h) (append-nil out)

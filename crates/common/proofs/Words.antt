@@ -1,38 +1,14 @@
--- Eight bytes put together are the word of them; a word taken apart again.
-use mathlib.Core.Path.{◌≡◌, refl, ap, ◌∙◌}
+-- A word taken apart into its bytes, and eight bytes put together.
+use mathlib.Core.Path.{◌≡◌, refl, ap}
 use mathlib.Core.List.{[], ◌∷◌}
-use Prim.Native.Nat.{ℕ, zero, suc, ◌+◌, ◌*◌, ◌/◌, ◌%◌, ◌^◌, ◌≤◌, ◌<◌}
+use Prim.Native.Nat.{ℕ, zero, suc, ◌+◌, ◌*◌, ◌/◌, ◌%◌, ◌≤◌, ◌<◌}
 use native.Mathlib.Nat.{div-div-eq-div-mul}
 use native.Mathlib.Numerals.{towards_suc}
 use native.Mathlib.Omega.{arith}
-use lib.Bits.{bit_or, or_shifted_r}
 use lib.ListN.{length, set, take, drop, get_or}
 use lib.Seq.{sets, drop-cons}
 use Rattle.common.specs.Bytes.{Bytes}
 use Rattle.common.specs.Word.{word_at, octets}
-
--- a byte more, above the k bits of the bytes before it
-above : (k b n m : ℕ) → n ≡ m → m < 2 ^ k → bit_or n (b * 2 ^ k) ≡ b * 2 ^ k + m
-above k b n m e h = ap (λ (x : ℕ). bit_or x (b * 2 ^ k)) e ∙ or_shifted_r b k m h
-
-module _ (a b c d e f g h : ℕ) (a< : a < 256) (b< : b < 256) (c< : c < 256) (d< : d < 256) (e< : e < 256) (f< : f < 256) (g< : g < 256) where
-  abbrev two : ℕ
-  two = bit_or a (b * 0x100)
-
-  abbrev four : ℕ
-  four = bit_or (bit_or two (c * 0x10000)) (d * 0x1000000)
-
-  abbrev six : ℕ
-  six = bit_or (bit_or four (e * 0x100000000)) (f * 0x10000000000)
-
-  four_sum : four ≡ d * 2 ^ 24 + (c * 2 ^ 16 + (b * 2 ^ 8 + a))
-  four_sum = above 24 d _ _ (above 16 c _ _ (or_shifted_r b 8 a a<) (omega arith)) (omega arith)
-
-  six_sum : six ≡ f * 2 ^ 40 + (e * 2 ^ 32 + (d * 2 ^ 24 + (c * 2 ^ 16 + (b * 2 ^ 8 + a))))
-  six_sum = above 40 f _ _ (above 32 e _ _ four_sum (omega arith)) (omega arith)
-
-  pub word_sum : bit_or (bit_or six (g * 0x1000000000000)) (h * 0x100000000000000) ≡ ((((((h * 256 + g) * 256 + f) * 256 + e) * 256 + d) * 256 + c) * 256 + b) * 256 + a
-  word_sum = above 56 h _ _ (above 48 g _ _ six_sum (omega arith)) (omega arith) ∙ omega arith
 
 -- ---- the bytes of a word
 

@@ -1,10 +1,9 @@
 -- What a call says in document 01's numbers ("Who can cause which number", "The program reads an option line").
-use Rattle.std.specs.Prelude.{cond, ℕ, ◌-◌, ◌^◌, min, ltb, length}
+use Rattle.std.specs.Prelude.{cond, ℕ, ◌-◌, ◌^◌, min, ltb, length, Result, Ok, Err}
 use Rattle.common.specs.Bytes.{Bytes, padded}
 use Rattle.common.specs.Refusals.{out_too_short}
 use Rattle.common.specs.declared.Answer as declared
-use Rattle.common.specs.declared.Written.{Written}
-use Rattle.common.specs.declared.Written.TheVariants.{Text, TooShort}
+use Rattle.common.specs.declared.TooShort.{TooShort}
 
 -- a number, its second number, visits and length
 abbrev pub Answer : Type 0
@@ -22,10 +21,10 @@ accepted second visits length = record { number = 0; second = second; visits = v
 abbrev pub written : ℕ → Answer
 written n = accepted 0 0 n
 
--- the numbers of each case of `Written`
-abbrev pub numbers : Written → Answer
-numbers (Text n) = written n
-numbers (TooShort need) = refused out_too_short need
+-- the numbers of a text of so many bytes, or of a buffer that is too short for it
+abbrev pub numbers : Result ℕ TooShort → Answer
+numbers (Ok n) = written n
+numbers (Err e) = refused out_too_short e.need
 
 -- a need as a number of 64 bits; the escape of a text of more than 2^60 bytes can need more
 abbrev pub capped : ℕ → ℕ

@@ -83,11 +83,10 @@ impl Answer {
     }
 }
 
-// A text of so many bytes is written, or the lent buffer is shorter than the need.
-#[derive(Clone, Copy)]
-pub enum Written {
-    Text(usize),
-    TooShort(usize),
+// The lent buffer is shorter than the text that it was to hold.
+#[derive(Clone, Copy, Debug, PartialEq, Eq)]
+pub struct TooShort {
+    pub need: usize,
 }
 
 // The bytes of word to at and on; the place past them.
@@ -95,12 +94,9 @@ pub fn put(out: &mut [u8], at: usize, word: &[u8]) -> usize
     requires { at + length word.now ≤ length out.old }
     ensures { Puts out.old at word.now out.new result }
 {
-    let mut i = 0;
-    while i < word.len() {
-        out[at + i] = word[i];
-        i += 1;
-    }
-    at + i
+    let past = at + word.len();
+    out[at..past].copy_from_slice(word);
+    past
 }
 
 // Zeros from at to the end.
@@ -108,55 +104,29 @@ pub fn clear(out: &mut [u8], at: usize)
     requires { at ≤ length out.old }
     ensures { out.new ≡ take at out.old ++ replicate (length out.old - at) 0 }
 {
-    let mut i = at;
-    while i < out.len() {
-        out[i] = 0;
-        i += 1;
-    }
+    out[at..].fill(0);
 }
 
 // Whether two byte strings are equal.
-#[tactic(auto, using(crate::proofs::Equality::same_length))]
 pub fn same(s: &[u8], t: &[u8]) -> bool
     ensures { result ≡ same s.now t.now }
 {
-    if s.len() != t.len() {
-        return false;
-    }
-    let mut i = 0;
-    while i < s.len() {
-        if s[i] != t[i] {
-            return false;
-        }
-        i += 1;
-    }
-    true
+    s == t
 }
 
-fn wide(b: u8) -> usize
-    ensures { (result ≡ b) × (result < 256) }
-{
-    b as usize
-}
-
-// The eight bytes at at as one number, the first the lowest. In this form LLVM makes one load of it.
+// The eight bytes at at as one number, the first the lowest. LLVM makes one load of it.
 pub fn word_at(s: &[u8], at: usize) -> usize
     requires { at + 8 ≤ length s.now }
     ensures { result ≡ word_at s.now at }
 {
-    let a = wide(s[at]);
-    let b = wide(s[at + 1]);
-    let c = wide(s[at + 2]);
-    let d = wide(s[at + 3]);
-    let e = wide(s[at + 4]);
-    let f = wide(s[at + 5]);
-    let g = wide(s[at + 6]);
-    let h = wide(s[at + 7]);
-    a | b * 0x100
-        | c * 0x10000
-        | d * 0x1000000
-        | e * 0x100000000
-        | f * 0x10000000000
-        | g * 0x1000000000000
-        | h * 0x100000000000000
+    usize::from_le_bytes([
+        s[at],
+        s[at + 1],
+        s[at + 2],
+        s[at + 3],
+        s[at + 4],
+        s[at + 5],
+        s[at + 6],
+        s[at + 7],
+    ])
 }

@@ -1,14 +1,13 @@
 -- From the columns of `take_rows` and the rows that are left out to what the passes ask for, and to the page's extraction.
-use mathlib.Core.Path.{◌≡◌, sym, ap, ◌∙◌}
+use Rattle.std.specs.Prelude.{Result}
+use mathlib.Core.Path.{◌≡◌}
 use mathlib.Core.Bool.{Bool, true, false}
 use mathlib.Core.List.{List, []}
 use Prim.Native.Nat.{ℕ, ◌≤◌}
-use native.Mathlib.Omega.{arith}
 use lib.ListN.{length, take}
 use Rattle.common.specs.Bytes.{Bytes}
 use Rattle.options.specs.declared.ExtractOptions.{ExtractOptions}
 use Rattle.sheet.specs.Accepted.{Accepted}
-use Rattle.sheet.specs.Layout.{depths}
 use Rattle.sheet.specs.declared.line.Layout.{Layout}
 use Rattle.sheet.proofs.LayoutLaws.{depths_from_length}
 use Rattle.tree.specs.Page.{node_at, page_of}
@@ -17,7 +16,8 @@ use Rattle.writer.specs.Out.{greater}
 use Rattle.html2text.specs.Escapes.{bytes_escaped, escaped_length, read_in}
 use Rattle.html2text.specs.Extract.{hidden, longest_names}
 use Rattle.html2text.specs.Fused.{closed}
-use Rattle.html2text.specs.declared.Extraction.{Extraction}
+use Rattle.html2text.specs.declared.ExtractError.{ExtractError}
+use Rattle.html2text.specs.declared.Extracted.{Extracted}
 use Rattle.walk.specs.Rows.{Columns, RowsRead}
 use Rattle.walk.proofs.RowLaws.{column_is}
 use Rattle.visits.specs.Visiting.{Noted, Walked, events_in, passes_of, run_of}
@@ -48,7 +48,7 @@ module _ (s : Bytes) (l : Layout) (o : ExtractOptions) (left : List Bool) (agree
   pub rows_walked : Accepted s l → l.nodes ≤ length left → Walked s l o left
   rows_walked accepted long = walked s l left (hidden (filtered (page_of s l) o) (page_of s l) o) agree o accepted long
 
-  pub rows_extract : {names : ℕ} {out work out' work' : Bytes} {r : Extraction} {n : ℕ} → names ≡ names_need (page_of s l) o
+  pub rows_extract : {names : ℕ} {out work out' work' : Bytes} {r : Result Extracted ExtractError} {n : ℕ} → names ≡ names_need (page_of s l) o
       → Concludes (greater (run_of s l o left).note.peak names) (length (passes_of s l left)) (closed o (run_of s l o left)) out work r out' work'
       → n ≡ read_in r (bytes_escaped o [] (events_in s l (passes_of s l left)))
       → Extracts (filtered (page_of s l) o) (page_of s l) o out work r out' work' × (n ≡ read_in r (escaped_length (filtered (page_of s l) o) (page_of s l) o))

@@ -1,5 +1,6 @@
 -- What the passes conclude from the rows that are left out is the extraction of the page.
-use mathlib.Core.Path.{◌≡◌, refl, sym, ap, ap₂, subst, ◌∙◌}
+use Rattle.std.specs.Prelude.{Result}
+use mathlib.Core.Path.{◌≡◌, ap, ap₂, subst, ◌∙◌}
 use mathlib.Core.Bool.{Bool}
 use mathlib.Core.List.{List, []}
 use Prim.Native.Nat.{ℕ}
@@ -11,10 +12,11 @@ use Rattle.tree.specs.Page.{node_at, page_of}
 use Rattle.writer.specs.Out.{greater}
 use Rattle.html2text.specs.Collect.{Event}
 use Rattle.html2text.specs.Escapes.{bytes_escaped, escaped_length, read_in}
-use Rattle.html2text.specs.Extract.{Run, serialized, longest_text, hidden, entries, passes, work_need, extraction, out_after, work_after}
+use Rattle.html2text.specs.Extract.{Run, serialized, hidden, entries, passes, work_need, extraction, out_after, work_after}
 use Rattle.html2text.specs.Fused.{idle, closed, fed_all}
 use Rattle.html2text.specs.Walk.{events, visits, tree_of}
-use Rattle.html2text.specs.declared.Extraction.{Extraction}
+use Rattle.html2text.specs.declared.ExtractError.{ExtractError}
+use Rattle.html2text.specs.declared.Extracted.{Extracted}
 use Rattle.html2text.proofs.FusionLaws.{fusion}
 use Rattle.visits.specs.Visiting.{events_in, passes_of, run_of}
 use Rattle.extract.specs.Concluding.{Concludes, names_need, Extracts}
@@ -30,7 +32,7 @@ module _ (s : Bytes) (l : Layout) (o : ExtractOptions) (filtered : ℕ → Bool)
     need_is : {names : ℕ} → names ≡ names_need (page_of s l) o → greater (run_of s l o left).note.peak names ≡ work_need filtered (page_of s l) o
     need_is e = ap₂ greater (ap (λ (es : List Event). (fed_all o es idle).note.peak) same ∙ (fusion o walked).need) e
 
-    pub extracts : {names : ℕ} {out work out' work' : Bytes} {r : Extraction} → length (passes_of s l left) ≡ visits (node_at s l) (hidden filtered (page_of s l) o) (tree_of (page_of s l))
+    pub extracts : {names : ℕ} {out work out' work' : Bytes} {r : Result Extracted ExtractError} → length (passes_of s l left) ≡ visits (node_at s l) (hidden filtered (page_of s l) o) (tree_of (page_of s l))
         → names ≡ names_need (page_of s l) o → Concludes (greater (run_of s l o left).note.peak names) (length (passes_of s l left)) (closed o (run_of s l o left)) out work r out' work'
         → Extracts filtered (page_of s l) o out work r out' work'
     unfolding extraction out_after work_after
@@ -40,6 +42,6 @@ module _ (s : Bytes) (l : Layout) (o : ExtractOptions) (filtered : ℕ → Bool)
         (subst (λ (m : ℕ). Concludes m (length (passes_of s l left)) (closed o (run_of s l o left)) out work r out' work') (need_is n) k)) in
         record { answer = at.answer; out_is = at.out_is; work_is = at.work_is }
 
-    pub reads : {n : ℕ} (r : Extraction) → n ≡ read_in r (bytes_escaped o [] (events_in s l (passes_of s l left))) → n ≡ read_in r (escaped_length filtered (page_of s l) o)
+    pub reads : {n : ℕ} (r : Result Extracted ExtractError) → n ≡ read_in r (bytes_escaped o [] (events_in s l (passes_of s l left))) → n ≡ read_in r (escaped_length filtered (page_of s l) o)
     unfolding escaped_length
     reads r e = e ∙ ap (λ (es : List Event). read_in r (bytes_escaped o [] es)) same

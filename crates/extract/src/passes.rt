@@ -6,13 +6,13 @@ ghost use Rattle.html2text.specs.Fused.{closed};
 ghost use Rattle.sheet.specs.Layout.{most_depth};
 ghost use Rattle.visits.specs.Visiting.{Noted, Walked, events_in, passes_of, run_of};
 ghost use Rattle.writer.specs.Out.{greater};
-ghost use Rattle.extract.specs.Concluding.{Concludes, GoesOn};
+ghost use Rattle.extract.specs.Concluding.{Concludes, GoesOn, extraction_in, read_counted};
 
 use crate::Counted;
-use html2text::Extraction;
+use html2text::{ExtractError, Extracted};
 use options::ExtractOptions;
 use sheet::line::Layout;
-use writing::{Passed, pass};
+use writing::pass;
 
 // The second pass, where no limit is passed; peak: the greatest length of the text.
 fn fill(
@@ -33,54 +33,31 @@ fn fill(
     peak: usize,
     out: &mut [u8],
     work: &mut [u8],
-) -> Counted
+) -> Result<Counted, ExtractError>
     requires noted { Noted s.now l depths.now tags.now attributes.now values.now lengths.now }
     requires walked { Walked s.now l o left.now × (most_depth < length stack.old) × (length numbering.old ≡ most_levels) × (length cells.old ≡ most_open_rows) }
     requires goes_on { GoesOn (closed o (run_of s.now l o left.now)) peak }
-    ensures concludes { Concludes need visits (closed o (run_of s.now l o left.now)) out.old work.old result.extraction out.new work.new }
-    ensures counted { result.read ≡ read_in result.extraction (bytes_escaped o [] (events_in s.now l (passes_of s.now l left.now))) }
+    ensures concludes { Concludes need visits (closed o (run_of s.now l o left.now)) out.old work.old (extraction_in result) out.new work.new }
+    ensures counted { read_counted result ≡ read_in (extraction_in result) (bytes_escaped o [] (events_in s.now l (passes_of s.now l left.now))) }
 {
     if work.len() < need {
-        return Counted {
-            extraction: Extraction::WorkTooShort(need),
-            read: 0,
-        };
+        return Err(ExtractError::WorkTooShort(need));
     }
     if out.len() < peak {
         common::clear(work, 0);
-        return Counted {
-            extraction: Extraction::OutTooShort(peak),
-            read: 0,
-        };
+        return Err(ExtractError::OutTooShort(peak));
     }
-    let written = pass(
+    let p = pass(
         o, s, l, depths, tags, attributes, values, lengths, left, stack, numbering, cells, out,
         true,
-    );
-    match written {
-        Passed::Text {
-            need: _,
-            visits: _,
-            read,
-            writer: w,
-        } => {
-            let len = w.kept;
-            common::clear(work, 0);
-            common::clear(out, len);
-            Counted {
-                extraction: Extraction::Text { visits, len },
-                read,
-            }
-        }
-        Passed::TooManyLevels(line) => Counted {
-            extraction: Extraction::ListLevels(line),
-            read: 0,
-        },
-        Passed::TooManyRows(line) => Counted {
-            extraction: Extraction::OpenRows(line),
-            read: 0,
-        },
-    }
+    )?;
+    let len = p.writer.kept;
+    common::clear(work, 0);
+    common::clear(out, len);
+    Ok(Counted {
+        extracted: Extracted { visits, len },
+        read: p.read,
+    })
 }
 
 // names: what work must hold beside the entries' texts.
@@ -100,36 +77,34 @@ pub fn extract_rows(
     names: usize,
     out: &mut [u8],
     work: &mut [u8],
-) -> Counted
+) -> Result<Counted, ExtractError>
     requires noted { Noted s.now l depths.now tags.now attributes.now values.now lengths.now }
     requires walked { Walked s.now l o left.now × (most_depth < length stack.old) × (length numbering.old ≡ most_levels) × (length cells.old ≡ most_open_rows) }
-    ensures concludes { Concludes (greater (run_of s.now l o left.now).note.peak names) (length (passes_of s.now l left.now)) (closed o (run_of s.now l o left.now)) out.old work.old result.extraction out.new work.new }
-    ensures counted { result.read ≡ read_in result.extraction (bytes_escaped o [] (events_in s.now l (passes_of s.now l left.now))) }
+    ensures concludes { Concludes (greater (run_of s.now l o left.now).note.peak names) (length (passes_of s.now l left.now)) (closed o (run_of s.now l o left.now)) out.old work.old (extraction_in result) out.new work.new }
+    ensures counted { read_counted result ≡ read_in (extraction_in result) (bytes_escaped o [] (events_in s.now l (passes_of s.now l left.now))) }
 {
-    let measured = pass(
+    let p = pass(
         o, s, l, depths, tags, attributes, values, lengths, left, stack, numbering, cells, out,
         false,
-    );
-    match measured {
-        Passed::Text {
-            need: texts,
-            visits,
-            read: _,
-            writer: w,
-        } => {
-            let need = writer::greater(texts, names);
-            fill(
-                o, s, l, depths, tags, attributes, values, lengths, left, stack, numbering, cells,
-                need, visits, w.peak, out, work,
-            )
-        }
-        Passed::TooManyLevels(line) => Counted {
-            extraction: Extraction::ListLevels(line),
-            read: 0,
-        },
-        Passed::TooManyRows(line) => Counted {
-            extraction: Extraction::OpenRows(line),
-            read: 0,
-        },
-    }
+    )?;
+    let need = p.need.max(names);
+    fill(
+        o,
+        s,
+        l,
+        depths,
+        tags,
+        attributes,
+        values,
+        lengths,
+        left,
+        stack,
+        numbering,
+        cells,
+        need,
+        p.visits,
+        p.writer.peak,
+        out,
+        work,
+    )
 }

@@ -1,9 +1,9 @@
 -- `is_main_content` reads kinds, names, values and the attributes of twelve names: an alt is not among them, so that one that is written in
 -- filters no row out, and none in.
+use Rattle.std.specs.Prelude.{Option, None, Some}
 use mathlib.Core.Path.{◌≡◌, refl, sym, ap, ◌∙◌}
 use mathlib.Core.Bool.{Bool, true, false, not, cond}
 use mathlib.Core.List.{List, [], ◌∷◌, ◌++◌}
-use mathlib.Core.Option.{Option, none, some}
 use Prim.Native.Nat.{ℕ, zero, suc, ◌+◌, ◌-◌}
 use lib.ListN.{length, get_or}
 use Rattle.common.specs.Bytes.{Bytes, codes, same}
@@ -70,20 +70,20 @@ module _ (node_of : ℕ → Node) (depths : List ℕ) (attributes : ℕ → List
   unfolding body_from
   body_same zero i = refl
   body_same (suc above) i = λ k.
-      elim (is_body (node_of i)) [ true ↦ i | false ↦ elim (parent_of depths i) [ none ↦ i | some parent ↦ body_same above parent k ] ]
+      elim (is_body (node_of i)) [ true ↦ i | false ↦ elim (parent_of depths i) [ None ↦ i | Some parent ↦ body_same above parent k ] ]
 
   content_same : (next : Option ℕ) → content_follows node_of depths next ≡ content_follows changed_of depths next
   unfolding is_not_text
-  content_same none = refl
-  content_same (some next) = refl
+  content_same None = refl
+  content_same (Some next) = refl
 
   followed_same : (above i : ℕ) → followed_from node_of depths above i ≡ followed_from changed_of depths above i
   unfolding followed_from
   followed_same zero i = refl
   followed_same (suc above) i = λ k.
       elim (parent_of depths i) [
-        | none ↦ false
-        | some parent ↦
+        | None ↦ false
+        | Some parent ↦
             elim (is_body (node_of parent)) [
               | true ↦ false
               | false ↦ elim (content_same (next_sibling_of depths i) k) [ true ↦ true | false ↦ followed_same above parent k ]

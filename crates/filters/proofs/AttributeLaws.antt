@@ -1,30 +1,29 @@
 -- The attributes that the filters ask for: their numbers, and the slots that one pass fills.
-use mathlib.Core.Path.{◌≡◌, refl, sym, ap, ap₂, ◌∙◌}
+use Rattle.std.specs.Prelude.{Option, None, Some}
+use mathlib.Core.Path.{◌≡◌, refl, sym, ap, ◌∙◌}
 use mathlib.Core.Bool.{Bool, true, false, ◌||◌, not, cond}
 use mathlib.Core.List.{List, [], ◌∷◌}
 use Prim.Native.Nat.{ℕ, zero, suc, ◌+◌, ◌-◌, ◌≤◌, ◌<◌}
-use native.Mathlib.Numerals.{add-one}
 use native.Mathlib.Omega.{arith}
 use lib.Dec.{eqb}
-use lib.ListN.{get_or, set, length, replicate, length-set, length-replicate}
+use lib.ListN.{get_or, set, length, replicate, length-set}
 use lib.Seq.{get_or-set_same, get_or-set_other}
 use borrow.Author.Tests.{eq-eqb, eqb-true, eqb-false}
 use Rattle.common.specs.Bytes.{Bytes, codes, same}
 use Rattle.common.proofs.Choice.{by_test, absurd_test}
 use Rattle.common.proofs.Equality.{same_true, same_of, same_not}
-use Rattle.common.proofs.Every.{every, every_at}
+use Rattle.common.proofs.Every.{every_at}
 use Rattle.sheet.specs.Accepted.{Accepted}
 use Rattle.sheet.specs.Layout.{attribute_at, range}
 use Rattle.sheet.specs.declared.line.Attribute.{Attribute}
 use Rattle.sheet.specs.declared.line.Layout.{Layout}
 use Rattle.tags.specs.Words.{words, first_word, other_words, one_of, number_from}
 use Rattle.tags.proofs.WordLaws.{each, each_at, no_number, number_below, number_word, one_word}
-use Rattle.tree.specs.Attributes.{name_at, find_of, value_in, RangeInside, attributes_from}
+use Rattle.tree.specs.Attributes.{name_at, find_of, value_in, attributes_from}
 use Rattle.tree.specs.Node.{attribute}
 use Rattle.tree.proofs.AttributeLines.{find_is}
-use Rattle.tree.specs.declared.attributes.AttributeAt.{AttributeAt}
-use Rattle.tree.specs.declared.attributes.AttributeAt.TheVariants.{Absent, At}
-use Rattle.filters.specs.Gathered.{attribute_names, name_count, slot_count, attribute_number, slot, SlotInside, Slots, Gathered, Readable}
+use Rattle.tree.specs.declared.attributes.Span.{Span}
+use Rattle.filters.specs.Gathered.{attribute_names, name_count, slot_count, attribute_number, SlotsOf, Gathered}
 
 -- ---- the number of a name
 
@@ -62,36 +61,35 @@ distinct k h = eqb-true _ _ (every_at (λ n. eqb (attribute_number (get_or attri
 
 -- ---- the slots
 
-zero_at : (n k : ℕ) → ◌≡◌ {A = ℕ} (get_or (replicate n 0) k 0) 0
-zero_at zero k = refl
-zero_at (suc n) zero = refl
-zero_at (suc n) (suc k) = zero_at n k
+none_at : (n k : ℕ) → ◌≡◌ {A = Option Span} (get_or (replicate n None) k None) None
+none_at zero k = refl
+none_at (suc n) zero = refl
+none_at (suc n) (suc k) = none_at n k
 
 module _ (s : Bytes) (l : Layout) where
-  slots_none : (j : ℕ) {starts lengths : List ℕ} → starts ≡ replicate slot_count 0 → lengths ≡ replicate slot_count 0 → Slots s l j 0 starts lengths
+  slots_none : (j : ℕ) {slots : List (Option Span)} → slots ≡ replicate slot_count None → SlotsOf s l j 0 slots
   unfolding find_of
-  slots_none j p q = record {
-    starts_size = ap length p;
-    lengths_size = ap length q;
-    found = λ k h. ap₂ (λ (a b : ℕ). slot a b) (ap (λ (t : List ℕ). get_or t (suc k) 0) p ∙ zero_at slot_count (suc k)) (ap (λ (t : List ℕ). get_or t (suc k) 0) q ∙ zero_at slot_count (suc k));
-    inside = λ k. omega (arith, ap (λ (t : List ℕ). get_or t k 0) p ∙ zero_at slot_count k, ap (λ (t : List ℕ). get_or t k 0) q ∙ zero_at slot_count k);
+  slots_none j p = record {
+    size = ap length p;
+    found = λ k h. ap (λ (t : List (Option Span)). get_or t (suc k) None) p ∙ none_at slot_count (suc k);
+    inside = λ k. rw (ap (λ (t : List (Option Span)). get_or t k None) p ∙ none_at slot_count k) tt;
   }
 
-  pub slots_start : (from count : ℕ) {starts lengths : List ℕ} → starts ≡ replicate slot_count 0 → lengths ≡ replicate slot_count 0 → Slots s l (from + count) (count - count) starts lengths
-  slots_start from count p q = let z : count - count ≡ 0 = omega arith in rw z (slots_none (from + count) p q)
+  pub slots_start : (from count : ℕ) {slots : List (Option Span)} → slots ≡ replicate slot_count None → SlotsOf s l (from + count) (count - count) slots
+  slots_start from count p = let z : count - count ≡ 0 = omega arith in rw z (slots_none (from + count) p)
 
-  module _ {j n : ℕ} {starts lengths : List ℕ} (w : Slots s l (suc j) n starts lengths) {a : Attribute} (a_is : a ≡ attribute_at s l j) (fits : a.value_at + a.value_len ≤ l.pool)
+  module _ {j n : ℕ} {slots : List (Option Span)} (w : SlotsOf s l (suc j) n slots) {a : Attribute} (a_is : a ≡ attribute_at s l j) (fits : a.value_at + a.value_len ≤ l.pool)
       {k : ℕ} (k_is : k ≡ attribute_number (name_at s l j)) where
     small : k < slot_count
     small = number_small (name_at s l j) k_is
 
-    stored_starts : (m : ℕ) → m ≡ k → get_or (set starts k (a.value_at + 1)) m 0 ≡ suc a.value_at
-    stored_starts m e = ap (λ (i : ℕ). get_or (set starts k (a.value_at + 1)) i 0) e ∙ get_or-set_same starts k (a.value_at + 1) 0 (omega (arith, w.starts_size, small)) ∙ add-one a.value_at
+    abbrev this : Option Span
+    this = Some (record { at = a.value_at; len = a.value_len })
 
-    stored_lengths : (m : ℕ) → m ≡ k → get_or (set lengths k a.value_len) m 0 ≡ a.value_len
-    stored_lengths m e = ap (λ (i : ℕ). get_or (set lengths k a.value_len) i 0) e ∙ get_or-set_same lengths k a.value_len 0 (omega (arith, w.lengths_size, small))
+    stored : (m : ℕ) → m ≡ k → get_or (set slots k this) m None ≡ this
+    stored m e = ap (λ (i : ℕ). get_or (set slots k this) i None) e ∙ get_or-set_same slots k this None (omega (arith, w.size, small))
 
-    found_here : (m : ℕ) → suc m ≡ k → At a.value_at a.value_len ≡ find_of s l (get_or attribute_names m []) j (suc n)
+    found_here : (m : ℕ) → suc m ≡ k → this ≡ find_of s l (get_or attribute_names m []) j (suc n)
     unfolding find_of
     found_here m e =
         let named : same (name_at s l j) (get_or attribute_names m []) ≡ true = same_of _ _ (number_is (name_at s l j) m (sym k_is ∙ sym e)) in
@@ -103,41 +101,37 @@ module _ (s : Bytes) (l : Layout) where
         let other : same (name_at s l j) (get_or attribute_names m []) ≡ false = same_not _ _ (λ q. e (sym (distinct m h) ∙ ap attribute_number (sym q) ∙ sym k_is)) in
         rw (other, find_of)
 
-    pub slots_more : Slots s l j (suc n) (set starts k (a.value_at + 1)) (set lengths k a.value_len)
+    pub slots_more : SlotsOf s l j (suc n) (set slots k this)
     slots_more = record {
-      starts_size = length-set starts k _ ∙ w.starts_size;
-      lengths_size = length-set lengths k _ ∙ w.lengths_size;
+      size = length-set slots k _ ∙ w.size;
       found = λ m h. by_test (eqb (suc m) k)
-          (λ t. let e = eqb-true (suc m) k t in ap₂ (λ (x y : ℕ). slot x y) (stored_starts (suc m) e) (stored_lengths (suc m) e) ∙ found_here m e)
-          (λ t. let e = eqb-false (suc m) k t in ap₂ (λ (x y : ℕ). slot x y) (get_or-set_other starts k (suc m) _ 0 e) (get_or-set_other lengths k (suc m) _ 0 e) ∙ w.found m h ∙ found_next m h e);
+          (λ t. let e = eqb-true (suc m) k t in stored (suc m) e ∙ found_here m e)
+          (λ t. let e = eqb-false (suc m) k t in get_or-set_other slots k (suc m) _ None e ∙ w.found m h ∙ found_next m h e);
       inside = λ m. by_test (eqb m k)
-          (λ t. let e = eqb-true m k t in omega (arith, stored_starts m e, stored_lengths m e))
-          (λ t. let e = eqb-false m k t in omega (arith, get_or-set_other starts k m (a.value_at + 1) 0 e, get_or-set_other lengths k m a.value_len 0 e, w.inside m));
+          (λ t. rw (stored m (eqb-true m k t)) fits)
+          (λ t. rw (get_or-set_other slots k m this None (eqb-false m k t)) (w.inside m));
     }
 
-  pub slots_step : (from count n : ℕ) {starts lengths : List ℕ} → 0 < n → n ≤ count → Slots s l (from + n) (count - n) starts lengths
+  pub slots_step : (from count n : ℕ) {slots : List (Option Span)} → 0 < n → n ≤ count → SlotsOf s l (from + n) (count - n) slots
       → {a : Attribute} → a ≡ attribute_at s l (from + (n - 1)) → a.value_at + a.value_len ≤ l.pool → {k : ℕ} → k ≡ attribute_number (name_at s l (from + (n - 1)))
-      → Slots s l (from + (n - 1)) (count - (n - 1)) (set starts k (a.value_at + 1)) (set lengths k a.value_len)
+      → SlotsOf s l (from + (n - 1)) (count - (n - 1)) (set slots k (Some (record { at = a.value_at; len = a.value_len })))
   slots_step from count n h g w a_is fits k_is =
       let p : from + n ≡ suc (from + (n - 1)) = omega arith in
       let q : count - (n - 1) ≡ suc (count - n) = omega arith in
       rw q (slots_more (rw p at w) a_is fits k_is)
 
-  pub slots_end : (from count n : ℕ) {starts lengths : List ℕ} → n ≤ 0 → Slots s l (from + n) (count - n) starts lengths → Slots s l from count starts lengths
+  pub slots_end : (from count n : ℕ) {slots : List (Option Span)} → n ≤ 0 → SlotsOf s l (from + n) (count - n) slots → SlotsOf s l from count slots
   slots_end from count n h w =
       let p : from + n ≡ from = omega arith in
       let q : count - n ≡ count = omega arith in
       rw (p, q) at w
 
   -- ---- as the tests use them
-  pub slots_readable : {from count : ℕ} {starts lengths : List ℕ} → Slots s l from count starts lengths → Readable l starts lengths
-  slots_readable w = record { starts_size = w.starts_size; lengths_size = w.lengths_size; inside = w.inside }
-
-  module _ {from count : ℕ} {starts lengths : List ℕ} (w : Slots s l from count starts lengths) where
-    holds : (k : ℕ) → k < name_count → value_in s l (slot (get_or starts (suc k) 0) (get_or lengths (suc k) 0)) ≡ attribute (attributes_from s l from count) (get_or attribute_names k [])
+  module _ {from count : ℕ} {slots : List (Option Span)} (w : SlotsOf s l from count slots) where
+    holds : (k : ℕ) → k < name_count → value_in s l (get_or slots (suc k) None) ≡ attribute (attributes_from s l from count) (get_or attribute_names k [])
     holds k h = ap (value_in s l) (w.found k h) ∙ find_is s l (get_or attribute_names k []) from count
 
-    pub slots_gathered : Gathered s l (attributes_from s l from count) starts lengths
+    pub slots_gathered : Gathered s l (attributes_from s l from count) slots
     unfolding attribute_names words first_word other_words codes
     slots_gathered = record {
       hidden = holds 0 (omega arith);
@@ -159,15 +153,3 @@ module _ (s : Bytes) (l : Layout) where
 
   pub number_of_part : (j : ℕ) {k : ℕ} {a : Attribute} {name : Bytes} → a ≡ attribute_at s l j → name ≡ range s l a.name_at a.name_len → k ≡ attribute_number name → k ≡ attribute_number (name_at s l j)
   number_of_part j a_is name_is e = e ∙ rw (name_is, a_is)
-
--- the attribute in a slot
-pub slot_absent : (at len : ℕ) → at ≡ 0 → Absent ≡ slot at len
-slot_absent at len e = rw e
-
-pub slot_at : (at len : ℕ) → (at ≡ 0 → ⊥) → At (at - 1) len ≡ slot at len
-slot_at zero len h = absurd (h refl)
-slot_at (suc at) len h = let k : suc at - 1 ≡ at = omega arith in rw k
-
-pub slot_inside : (l : Layout) (at len : ℕ) → SlotInside l at len → {a : AttributeAt} → a ≡ slot at len → RangeInside l a
-slot_inside l zero len h e = rw e tt
-slot_inside l (suc at) len h e = let k : at + len ≤ l.pool = omega arith in rw e k

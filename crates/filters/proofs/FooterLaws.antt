@@ -1,39 +1,26 @@
 -- The loops over the rows above a row, and the first row past each of them.
+use Rattle.std.specs.Prelude.{None, Some, is_some}
 use mathlib.Core.Path.{◌≡◌, refl, sym, ap, ◌∙◌}
 use mathlib.Core.Bool.{Bool, true, false, ◌||◌}
 use mathlib.Core.List.{List}
-use mathlib.Core.Option.{Option, none, some}
 use Prim.Native.Nat.{ℕ, zero, suc, ◌-◌, ◌≤◌, ◌<◌}
 use native.Mathlib.Omega.{arith}
 use lib.ListN.{length, get_or, drop}
 use Rattle.common.proofs.Choice.{by_test}
 use Rattle.sheet.specs.Column.{last_above, parent_of}
-use Rattle.sheet.specs.Notes.{found_of}
-use Rattle.sheet.specs.declared.verdict.Found.{Found}
-use Rattle.sheet.specs.declared.verdict.Found.TheVariants.{At, Nothing}
 use Rattle.tree.specs.Forest.{child}
 use Rattle.tree.specs.Node.{Node}
 use Rattle.tree.specs.Rows.{WellFormed, next_sibling_of, past_from, past_of}
 use Rattle.tree.proofs.Descendants.{descendant_is}
 use Rattle.tree.proofs.PastLaws.{past_of_high, past_inside, past_at, past_is, past_skip, above_skip, past_some, past_none}
 use Rattle.tree.proofs.Scans.{above_found, above_suc_more}
-use Rattle.filters.specs.Footer.{Above, is_some, is_body, is_not_text, body_from, body_above, content_follows, followed_from, followed}
+use Rattle.filters.specs.Footer.{Above, is_body, is_not_text, body_from, body_above, content_follows, followed_from, followed}
 
--- ---- rows that are found
-
-pub found_some : (o : Option ℕ) {f : Found} {j : ℕ} → f ≡ found_of o → f ≡ At j → o ≡ some j
-found_some none p q = let z : Nothing ≡ At _ = sym p ∙ q in cc
-found_some (some k) p q = let z : At k ≡ At _ = sym p ∙ q in cc
-
-pub found_none : (o : Option ℕ) {f : Found} → f ≡ found_of o → f ≡ Nothing → o ≡ none
-found_none none p q = refl
-found_none (some k) p q = let z : At k ≡ Nothing = sym p ∙ q in cc
-
-pub parent_before : (depths : List ℕ) (row above : ℕ) → parent_of depths row ≡ some above → above < row
+pub parent_before : (depths : List ℕ) (row above : ℕ) → parent_of depths row ≡ Some above → above < row
 parent_before depths row above e = (above_found depths (get_or depths row 0) row above e).0
 
 module _ (node_of : ℕ → Node) (depths : List ℕ) where
-  one_less : (row above : ℕ) → parent_of depths row ≡ some above → get_or depths row 0 ≡ suc (get_or depths above 0)
+  one_less : (row above : ℕ) → parent_of depths row ≡ Some above → get_or depths row 0 ≡ suc (get_or depths above 0)
   one_less row above e = sym (above_found depths (get_or depths row 0) row above e).1
 
   -- ---- the nearest body
@@ -43,12 +30,12 @@ module _ (node_of : ℕ → Node) (depths : List ℕ) where
   body_here zero row e = refl
   body_here (suc d) row e = rw (e, body_from)
 
-  body_top : (d row : ℕ) → is_body (node_of row) ≡ false → parent_of depths row ≡ none → body_from node_of depths d row ≡ row
+  body_top : (d row : ℕ) → is_body (node_of row) ≡ false → parent_of depths row ≡ None → body_from node_of depths d row ≡ row
   unfolding body_from
   body_top zero row e p = refl
   body_top (suc d) row e p = rw (e, p, body_from)
 
-  body_above_law : (row above : ℕ) → is_body (node_of row) ≡ false → parent_of depths row ≡ some above → body_above node_of depths row ≡ body_above node_of depths above
+  body_above_law : (row above : ℕ) → is_body (node_of row) ≡ false → parent_of depths row ≡ Some above → body_above node_of depths row ≡ body_above node_of depths above
   unfolding body_from
   body_above_law row above e p = rw (one_less row above p, e, p, body_from)
 
@@ -56,10 +43,10 @@ module _ (node_of : ℕ → Node) (depths : List ℕ) where
     pub body_found : is_body (node_of row) ≡ true → row ≡ body_above node_of depths i
     body_found e = sym (body_here (get_or depths row 0) row e) ∙ w
 
-    pub body_none : is_body (node_of row) ≡ false → parent_of depths row ≡ none → row ≡ body_above node_of depths i
+    pub body_none : is_body (node_of row) ≡ false → parent_of depths row ≡ None → row ≡ body_above node_of depths i
     body_none e p = sym (body_top (get_or depths row 0) row e p) ∙ w
 
-    pub body_up : (above : ℕ) → is_body (node_of row) ≡ false → parent_of depths row ≡ some above → body_above node_of depths above ≡ body_above node_of depths i
+    pub body_up : (above : ℕ) → is_body (node_of row) ≡ false → parent_of depths row ≡ Some above → body_above node_of depths above ≡ body_above node_of depths i
     body_up above e p = sym (body_above_law row above e p) ∙ w
 
     pub body_end : row ≤ 0 → row ≡ body_above node_of depths i
@@ -69,7 +56,7 @@ module _ (node_of : ℕ → Node) (depths : List ℕ) where
 
   -- ---- the loop over a footer's parents
 
-  follows_body : (d row above : ℕ) → parent_of depths row ≡ some above → is_body (node_of above) ≡ true → followed_from node_of depths d row ≡ false
+  follows_body : (d row above : ℕ) → parent_of depths row ≡ Some above → is_body (node_of above) ≡ true → followed_from node_of depths d row ≡ false
   unfolding followed_from
   follows_body zero row above p e = refl
   follows_body (suc d) row above p e = rw (p, e, followed_from)
@@ -79,7 +66,7 @@ module _ (node_of : ℕ → Node) (depths : List ℕ) where
     unfolding followed_from
     follow_end h = let z : get_or depths row 0 ≡ 0 = omega arith in sym (ap (λ (d : ℕ). followed_from node_of depths d row) z) ∙ w
 
-    module _ (above : ℕ) (p : parent_of depths row ≡ some above) where
+    module _ (above : ℕ) (p : parent_of depths row ≡ Some above) where
       pub follow_body : is_body (node_of above) ≡ true → false ≡ followed node_of depths i
       follow_body e = sym (follows_body (get_or depths row 0) row above p e) ∙ w
 
@@ -125,7 +112,7 @@ module _ (depths : List ℕ) (row : ℕ) {stack : List ℕ} {d : ℕ} (a : Above
   pub above_inside : d - 1 < length stack
   above_inside = omega (arith, a.long)
 
-  pub above_parent : parent_of depths row ≡ some (get_or stack (d - 1) 0)
+  pub above_parent : parent_of depths row ≡ Some (get_or stack (d - 1) 0)
   above_parent =
       let e : get_or depths row 0 ≡ suc (d - 1) = omega arith in
       ap (λ (x : ℕ). last_above depths x row) e ∙ a.row (d - 1) (omega arith)
@@ -144,7 +131,7 @@ module _ (depths : List ℕ) (row : ℕ) {stack : List ℕ} {d : ℕ} (a : Above
       }
 
 -- the first row past a row, from the first row past a child of it
-pub past_above : (depths : List ℕ) → WellFormed depths → (row above : ℕ) → above < length depths → parent_of depths row ≡ some above → {end : ℕ} → end ≡ past_of depths row
+pub past_above : (depths : List ℕ) → WellFormed depths → (row above : ℕ) → above < length depths → parent_of depths row ≡ Some above → {end : ℕ} → end ≡ past_of depths row
     → past_from (get_or depths above 0) end (drop end depths) ≡ past_of depths above
 past_above depths w row above h p {end} end_is =
     let e = get_or depths above 0 in

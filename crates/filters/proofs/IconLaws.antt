@@ -6,12 +6,12 @@ use Prim.Native.Nat.{ℕ, ◌+◌, ◌*◌, ◌%◌, ◌≤◌, ◌<◌}
 use native.Mathlib.Omega.{arith}
 use lib.Dec.{leb, eqb}
 use lib.ListN.{length, get_or}
-use borrow.Author.Tests.{le-leb, lt-leb, leb-true, leb-false, ne_eqb, eqb-true, eqb-false}
+use borrow.Author.Tests.{le-leb, lt-leb, leb-true, leb-false, ne_eqb, eqb-true, eqb-false, eq-eqb}
 use Rattle.common.specs.Bytes.{Bytes, same}
-use Rattle.common.proofs.Choice.{by_test}
+use Rattle.common.proofs.Choice.{by_test, absurd_test, and_parts, and_both}
 use Rattle.common.proofs.Equality.{same_not, same_length}
-use Rattle.common.proofs.TestLaws.{or_yes, or_no, and_no, and_yes}
-use Rattle.utf8.specs.Abnf.{%x◌-◌}
+use Rattle.common.proofs.TestLaws.{or_no, and_no, and_yes}
+use Rattle.utf8.specs.Abnf.{%x◌-◌, UTF8_tail}
 use Rattle.utf8.specs.Character.{number, is_character}
 use Rattle.utf8.specs.Encoding.{encode}
 use Rattle.utf8.specs.Valid.{within}
@@ -33,10 +33,8 @@ module _ (low high c : ℕ) where
 
 -- ---- icons 0
 
-pub legacy_range : {a b c x y z : ℕ} {r : Bool} → x ≡ a → y ≡ b → z ≡ c → r ≡ within (%x 0x8080ee - 0xbfa3ef) (x + 256 * y + 65536 * z)
-    → r ≡ in_legacy_range a b c
-unfolding in_legacy_range
-legacy_range p q s e = e ∙ (λ i. within (%x 0x8080ee - 0xbfa3ef) (p i + 256 * q i + 65536 * s i))
+abbrev pilcrow : Bytes
+pilcrow = 0xc2 ∷ 0xb6 ∷ []
 
 three_bytes : (s : Bytes) → length s ≡ 3 → s ≡ get_or s 0 0 ∷ get_or s 1 0 ∷ get_or s 2 0 ∷ []
 three_bytes [] h = absurd (omega arith)
@@ -53,18 +51,18 @@ not_three_bytes test (a ∷ b ∷ c ∷ []) h = absurd (h refl)
 not_three_bytes test (a ∷ b ∷ c ∷ d ∷ s) h = refl
 
 module _ (s : Bytes) where
-  pub legacy_pilcrow : is_pilcrow s ≡ true → true ≡ is_legacy_icon s
-  unfolding is_legacy_icon
-  legacy_pilcrow e = or_yes _ e
-
-  pub legacy_size : is_pilcrow s ≡ false → (length s ≡ 3 → ⊥) → false ≡ is_legacy_icon s
+  legacy_size : is_pilcrow s ≡ false → (length s ≡ 3 → ⊥) → false ≡ is_legacy_icon s
   unfolding is_legacy_icon
   legacy_size e h = or_no _ e (sym (not_three_bytes in_legacy_range s h))
 
-  pub legacy_three : is_pilcrow s ≡ false → length s ≡ 3 → {r : Bool} → r ≡ in_legacy_range (get_or s 0 0) (get_or s 1 0) (get_or s 2 0)
-      → r ≡ is_legacy_icon s
+  -- ¶ has two bytes
+  pub legacy_three : length s ≡ 3 → {r : Bool} → r ≡ in_legacy_range (get_or s 0 0) (get_or s 1 0) (get_or s 2 0) → r ≡ is_legacy_icon s
   unfolding is_legacy_icon
-  legacy_three e h q = or_no _ e (q ∙ sym (ap (of_three in_legacy_range) (three_bytes s h)))
+  legacy_three h q = or_no _ (same_length s pilcrow (λ e. omega (arith, h, e))) (q ∙ sym (ap (of_three in_legacy_range) (three_bytes s h)))
+
+  pub legacy_other : (length s ≡ 3 → ⊥) → is_pilcrow s ≡ is_legacy_icon s
+  unfolding is_legacy_icon
+  legacy_other h = sym (rw (not_three_bytes in_legacy_range s h) (or-false (is_pilcrow s)))
 
 -- ---- icons 1
 
@@ -95,6 +93,21 @@ upper_test n =
     by_test (leb 0x10000 n) (λ p. rw p (sym (icon_upper n (leb-true 0x10000 n p))))
     (λ p. rw p (not_upper n (omega (arith, leb-false 0x10000 n p))))
 
+-- ---- the tests of an octet sequence, joined from the left
+
+pub and_far : {v a : Bool} (b : Bool) → v ≡ a → a ≡ false → v ≡ (a && b)
+and_far b p e = p ∙ e ∙ and_no b e
+
+module _ (b c : ℕ) {v w : Bool} (lead x : ℕ) (p : v ≡ (eqb x lead && within UTF8_tail b)) (q : w ≡ (v && within UTF8_tail c)) where
+  pub tests_of_three : w ≡ true → (x ≡ lead) × (within UTF8_tail b ≡ true) × (within UTF8_tail c ≡ true)
+  tests_of_three t =
+      let last = and_parts v _ (sym q ∙ t) in
+      let first = and_parts (eqb x lead) _ (sym p ∙ last.0) in
+      (eqb-true x lead first.0, first.1, last.1)
+
+  pub not_all_three : w ≡ false → (x ≡ lead) × (within UTF8_tail b ≡ true) × (within UTF8_tail c ≡ true) → ⊥
+  not_all_three e f = absurd_test (q ∙ and_both (p ∙ and_both (eq-eqb x lead f.0) f.1) f.2) e
+
 module _ (a b c : ℕ) {n : ℕ} {r : Bool} where
   pub icon_three : Three a b c → n ≡ number (a ∷ b ∷ c ∷ []) → r ≡ within private_use_area n → r ≡ is_private_icon (a ∷ b ∷ c ∷ [])
   icon_three f q e =
@@ -115,9 +128,6 @@ module _ (s : Bytes) {r : Bool} where
 
   pub private_four : length s ≡ 4 → r ≡ is_private_icon (get_or s 0 0 ∷ get_or s 1 0 ∷ get_or s 2 0 ∷ get_or s 3 0 ∷ []) → r ≡ is_private_icon s
   private_four h e = e ∙ sym (ap is_private_icon (four_bytes s h))
-
-abbrev pilcrow : Bytes
-pilcrow = 0xc2 ∷ 0xb6 ∷ []
 
 icon_one : (a : ℕ) → is_pilcrow (a ∷ []) ≡ is_private_icon (a ∷ [])
 unfolding is_character

@@ -2,10 +2,11 @@
 use mathlib.Core.Path.{◌≡◌, refl, sym, ap, ◌∙◌}
 use mathlib.Core.Bool.{Bool, true, false, ◌&&◌, ◌||◌, not, beq, or-false, and-false}
 use mathlib.Core.List.{List}
+use mathlib.Core.Logic.{◌⊎◌, inl, inr}
 use Prim.Native.Nat.{ℕ, ◌≤◌, ◌<◌}
 use native.Mathlib.Omega.{arith}
-use lib.Dec.{eqb, leb}
-use borrow.Author.Tests.{ne_eqb, le-leb, lt-leb, eqb-false}
+use lib.Dec.{eqb, leb, ltb}
+use borrow.Author.Tests.{ne_eqb, le-leb, lt-leb, eqb-false, eq-eqb, ltb-true, ltb-false}
 use Rattle.common.specs.Bytes.{Bytes, codes, same}
 use Rattle.common.proofs.Choice.{by_test}
 use Rattle.common.proofs.Equality.{same_not}
@@ -16,7 +17,12 @@ use Rattle.tags.specs.Words.{words, first_word, other_words, is, one_of, number_
 use Rattle.tags.proofs.TagLaws.{known, unknown, tag_tests}
 use Rattle.tags.proofs.WordLaws.{each, each_at, beq_true, one_of_cons, one_word, none_of, none_of_none}
 use Rattle.filters.specs.Filters.{not_block, skip_link, article}
-use Rattle.common.proofs.TestLaws.{or_no, and_no, and_yes}
+use Rattle.common.proofs.TestLaws.{or_no, or_left, or_right, and_no, and_yes}
+
+-- one of two numbers
+one_of_both : (a b k : ℕ) → (k ≡ b) ⊎ (k ≡ a) → (eqb k a || eqb k b) ≡ true
+one_of_both a b k (inl e) = or_right (eqb k a) (eqb k b) (eq-eqb k b e)
+one_of_both a b k (inr e) = or_left (eqb k a) (eqb k b) (eq-eqb k a e)
 
 module _ (name : Bytes) {tag : ℕ} (tag_is : tag ≡ tag_of name) where
   pub footer_number : is_footer tag ≡ is name "footer"
@@ -55,9 +61,15 @@ module _ (name : Bytes) {tag : ℕ} (tag_is : tag ≡ tag_of name) where
       (λ e. beq_true (test (tag_of name)) (one_of name ws) (each_at (λ w. beq (test (tag_of w)) (one_of w ws)) known t name e))
       (λ e. absurd (h (tag_is ∙ unknown name e)))
 
-  pub kept_numbered : (tag ≡ 0 → ⊥) → (eqb tag 33 || eqb tag 8) ≡ one_of name (words "body main h1")
+  kept_numbered : (tag ≡ 0 → ⊥) → (eqb tag 33 || eqb tag 8) ≡ one_of name (words "body main h1")
   unfolding tag_of tag_names number_from words first_word other_words codes one_of same
   kept_numbered h = numbered (λ t. eqb t 33 || eqb t 8) (words "body main h1") refl h
+
+  pub kept_yes : (tag ≡ 8) ⊎ (tag ≡ 33) → true ≡ one_of name (words "body main h1")
+  kept_yes h = sym (one_of_both 33 8 tag h) ∙ kept_numbered (λ z. omega arith)
+
+  pub kept_no : (tag ≡ 0 → ⊥) → (tag ≡ 8 → ⊥) → (tag ≡ 33 → ⊥) → false ≡ one_of name (words "body main h1")
+  kept_no z a b = or_no _ (ne_eqb _ _ b) (sym (ne_eqb _ _ a)) ∙ kept_numbered z
 
   pub kept_other : tag ≡ 0 → same name (codes "body") ≡ one_of name (words "body main h1")
   unfolding tag_of tag_names number_from words first_word other_words codes same
@@ -69,9 +81,15 @@ module _ (name : Bytes) {tag : ℕ} (tag_is : tag ≡ tag_of name) where
       (none_of_none name)))
       ∙ or-false (same name (codes "body")))
 
-  pub dropped_numbered : (tag ≡ 0 → ⊥) → (eqb tag 34 || eqb tag 17) ≡ one_of name (words "nav aside audio video time")
+  dropped_numbered : (tag ≡ 0 → ⊥) → (eqb tag 34 || eqb tag 17) ≡ one_of name (words "nav aside audio video time")
   unfolding tag_of tag_names number_from words first_word other_words codes one_of same
   dropped_numbered h = numbered (λ t. eqb t 34 || eqb t 17) (words "nav aside audio video time") refl h
+
+  pub dropped_yes : (tag ≡ 17) ⊎ (tag ≡ 34) → true ≡ one_of name (words "nav aside audio video time")
+  dropped_yes h = sym (one_of_both 34 17 tag h) ∙ dropped_numbered (λ z. omega arith)
+
+  pub dropped_no : (tag ≡ 0 → ⊥) → (tag ≡ 17 → ⊥) → (tag ≡ 34 → ⊥) → false ≡ one_of name (words "nav aside audio video time")
+  dropped_no z a b = or_no _ (ne_eqb _ _ b) (sym (ne_eqb _ _ a)) ∙ dropped_numbered z
 
   pub dropped_other : tag ≡ 0 → (same name (codes "audio") || (same name (codes "video") || same name (codes "time"))) ≡ one_of name (words "nav aside audio video time")
   unfolding tag_of tag_names number_from words first_word other_words codes same
@@ -111,3 +129,9 @@ block_number {tag} z h t =
     by_test (eqb tag 1)
     (λ e. rw e)
     (λ e. rw (e, le-leb tag 36 h, le-leb 3 tag (omega (arith, eqb-false tag 1 e))))
+
+pub not_block_numbered : (name : Bytes) {tag : ℕ} → tag ≡ tag_of name → (tag ≡ 0 → ⊥) → (tag ≡ 2 → ⊥) → ltb 36 tag ≡ not_block name
+not_block_numbered name {tag} tag_is z t =
+    by_test (ltb 36 tag)
+    (λ e. e ∙ not_block_outside name tag_is (past_blocks (ltb-true 36 tag e)) t)
+    (λ e. e ∙ not_block_inside name tag_is (block_number z (ltb-false 36 tag e) t))

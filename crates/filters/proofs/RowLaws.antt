@@ -1,8 +1,8 @@
 -- What a row of a sheet is, by the numbers that are read of it.
+use Rattle.std.specs.Prelude.{Some}
 use mathlib.Core.Path.{◌≡◌, refl, sym, ap, ◌∙◌}
 use mathlib.Core.Bool.{Bool, true, false}
 use mathlib.Core.List.{List}
-use mathlib.Core.Option.{some}
 use Prim.Native.Nat.{ℕ, ◌-◌, ◌≤◌, ◌<◌}
 use native.Mathlib.Omega.{arith}
 use lib.Dec.{eqb}
@@ -88,7 +88,7 @@ module _ {s : Bytes} {l : Layout} {i : ℕ} {stack : List ℕ} where
       abbrev next : ℕ
       next = get_or stack (d - 1) 0
 
-      pub parent_is : parent_of (depths s l) row ≡ some next
+      pub parent_is : parent_of (depths s l) row ≡ Some next
       parent_is = above_parent (depths s l) row g.above g.depth deep
 
       pub parent_inside : next < l.nodes

@@ -1,4 +1,5 @@
 -- The stages of `is_main_content` on a row of a sheet.
+use Rattle.std.specs.Prelude.{Option, None}
 use mathlib.Core.Path.{◌≡◌, refl, sym, ap, ◌∙◌}
 use mathlib.Core.Bool.{Bool, true, false, ◌&&◌, ◌||◌, not, cond}
 use mathlib.Core.List.{List, [], ◌∷◌}
@@ -21,6 +22,7 @@ use Rattle.tree.specs.Node.{Attribute, tag}
 use Rattle.tree.specs.Page.{node_at}
 use Rattle.tree.proofs.NodeLaws.{tag_of_element}
 use Rattle.tree.proofs.PageLaws.{is_element, name_is, value_is}
+use Rattle.tree.specs.declared.attributes.Span.{Span}
 use Rattle.filters.specs.Filters.{hidden_by_attribute, not_displayed, by_class_and_id, by_attributes, by_name, is_main_content}
 use Rattle.filters.specs.Gathered.{slot_value, Gathered}
 use Rattle.filters.specs.Icon.{is_icon}
@@ -32,8 +34,8 @@ is_empty_law [] = refl
 is_empty_law (c ∷ s) = eqb-suc-zero (length s)
 
 -- the values in their slots are class, id and style
-module _ (o : ExtractOptions) (cluster : Rule → Bool) (depth : ℕ) (name : Bytes) {s : Bytes} {l : Layout} {attributes : List Attribute} {starts lengths : List ℕ} (g : Gathered s l attributes starts lengths)
-    {class id style : Bytes} (class_is : class ≡ slot_value s l (get_or starts 6 0) (get_or lengths 6 0)) (id_is : id ≡ slot_value s l (get_or starts 7 0) (get_or lengths 7 0)) (style_is : style ≡ slot_value s l (get_or starts 8 0) (get_or lengths 8 0)) where
+module _ (o : ExtractOptions) (cluster : Rule → Bool) (depth : ℕ) (name : Bytes) {s : Bytes} {l : Layout} {attributes : List Attribute} {slots : List (Option Span)} (g : Gathered s l attributes slots)
+    {class id style : Bytes} (class_is : class ≡ slot_value s l (get_or slots 6 None)) (id_is : id ≡ slot_value s l (get_or slots 7 None)) (style_is : style ≡ slot_value s l (get_or slots 8 None)) where
   pub by_values : {r : Bool}
       → r ≡ cond (hidden_by_attribute attributes) false
       (cond (not_displayed o.hidden_elements class style) false

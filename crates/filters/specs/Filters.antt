@@ -1,5 +1,5 @@
 -- `is_main_content` of filters.rs (document 01, module 5), with its order of tests. Each test stands over what it reads.
-use Rattle.std.specs.Prelude.{Bool, ◌&&◌, ◌||◌, List, [], ◌∷◌, ℕ, ◌-◌, leb, ltb, get_or}
+use Rattle.std.specs.Prelude.{Bool, ◌&&◌, ◌||◌, List, ℕ, ◌-◌, leb, ltb, get_or}
 use Rattle.std.proofs.Math.Bool.{true, false, not, cond}
 use Prim.Native.String.{String}
 use Rattle.common.specs.Bytes.{Bytes, codes, is_empty}

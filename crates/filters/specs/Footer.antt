@@ -1,16 +1,11 @@
 -- The rows above a row: the nearest body, and the loop over the parents of a footer (`is_main_content` of filters.rs, `extract_plain_text` of html2text.rs).
-use Rattle.std.specs.Prelude.{◌≡◌, Bool, ◌||◌, List, length, get_or}
+use Rattle.std.specs.Prelude.{◌≡◌, Bool, ◌||◌, List, length, get_or, Option, None, Some, is_some}
 use Rattle.std.proofs.Math.Bool.{true, false}
-use Rattle.std.proofs.Math.Option.{Option, none, some}
 use Prim.Native.Nat.{ℕ, zero, suc, ◌≤◌, ◌<◌}
 use Rattle.sheet.specs.Column.{last_above, parent_of}
 use Rattle.tags.specs.Words.{is}
 use Rattle.tree.specs.Node.{element, text, comment, Node, tag}
 use Rattle.tree.specs.Rows.{next_sibling_of}
-
-abbrev pub is_some : Option ℕ → Bool
-is_some none = false
-is_some (some j) = true
 
 -- `tag(node) == "body"`
 unfoldable pub is_body : Node → Bool
@@ -24,7 +19,7 @@ is_not_text n = elim n.kind [ element ↦ true | text ↦ false | comment ↦ tr
 -- The rows that row i stands in, by their depths: stack[d] is the last row at depth d before row i, for each d less than the depth of row i.
 pub record Above (depths : List ℕ) (i : ℕ) (stack : List ℕ) : Type 0 where
   pub long : get_or depths i 0 ≤ length stack
-  pub row : (d : ℕ) → d < get_or depths i 0 → last_above depths (suc d) i ≡ some (get_or stack d 0)
+  pub row : (d : ℕ) → d < get_or depths i 0 → last_above depths (suc d) i ≡ Some (get_or stack d 0)
 
 module _ (node_of : ℕ → Node) (depths : List ℕ) where
   -- `while tag(&parent) != "body"`, with so many rows above row i
@@ -32,7 +27,7 @@ module _ (node_of : ℕ → Node) (depths : List ℕ) where
   unfolding is_body
   body_from zero i = i
   body_from (suc above) i =
-      elim (is_body (node_of i)) [ true ↦ i | false ↦ elim (parent_of depths i) [ none ↦ i | some parent ↦ body_from above parent ] ]
+      elim (is_body (node_of i)) [ true ↦ i | false ↦ elim (parent_of depths i) [ None ↦ i | Some parent ↦ body_from above parent ] ]
 
   -- the nearest row named body at or above row i; a row at depth d has d rows above it
   abbrev pub body_above : ℕ → ℕ
@@ -40,8 +35,8 @@ module _ (node_of : ℕ → Node) (depths : List ℕ) where
 
   -- `if let Some(next) = parent.next_sibling()`: `next.node_type() != Some(NodeType::Text) || next.next_sibling().is_some()`
   abbrev pub content_follows : Option ℕ → Bool
-  content_follows none = false
-  content_follows (some next) = is_not_text (node_of next) || is_some (next_sibling_of depths next)
+  content_follows None = false
+  content_follows (Some next) = is_not_text (node_of next) || is_some (next_sibling_of depths next)
 
   -- `while let Some(next_parent) = parent.parent_node()`, with so many rows above row i
   unfoldable pub followed_from : ℕ → ℕ → Bool
@@ -49,8 +44,8 @@ module _ (node_of : ℕ → Node) (depths : List ℕ) where
   followed_from zero i = false
   followed_from (suc above) i =
       elim (parent_of depths i) [
-        | none ↦ false
-        | some parent ↦
+        | None ↦ false
+        | Some parent ↦
             elim (is_body (node_of parent)) [
               | true ↦ false
               | false ↦ elim (content_follows (next_sibling_of depths i)) [ true ↦ true | false ↦ followed_from above parent ]

@@ -1,15 +1,16 @@
 // The attributes that the filters ask for, found in one pass.
-ghost use Rattle.std.specs.Prelude.{cond, ◌≡◌, ◌+◌, ◌≤◌, ◌<◌, get_or, length, replicate};
+ghost use Rattle.std.specs.Prelude.{None, cond, ◌≡◌, ◌+◌, ◌≤◌, ◌<◌, get_or, length, replicate};
 ghost use Rattle.common.specs.Bytes.{same};
 ghost use Rattle.sheet.specs.Accepted.{Accepted};
 ghost use Rattle.sheet.specs.Layout.{pool_limit};
-ghost use Rattle.filters.specs.Gathered.{attribute_number, Readable, slot, slot_count, slot_is_there, slot_value, SlotInside, Slots};
+ghost use Rattle.filters.specs.Gathered.{attribute_number, Readable, slot_count, slot_is_there, slot_value, SlotsOf};
 
 use sheet::line::Layout;
 use sheet::read::{attribute_at, part};
-use tree::attributes::{AttributeAt, or_empty};
+use tree::attributes::{Span, or_empty};
 
-// The numbers of the names, their slots; slot 0 is for all others.
+// The numbers of the names, their slots; slot 0 is for all others. They stay numbers: each is an index into the slots, and an enum would be
+// cast to one at every use.
 pub const HIDDEN: usize = 1;
 
 pub const REL: usize = 2;
@@ -40,10 +41,7 @@ pub const SLOTS: usize = 13;
 fn number_if(name: &[u8], word: &[u8], number: usize) -> usize
     ensures { result ≡ cond (same name.now word.now) number 0 }
 {
-    if common::same(name, word) {
-        return number;
-    }
-    0
+    if common::same(name, word) { number } else { 0 }
 }
 
 fn class_or_style(name: &[u8]) -> usize
@@ -76,64 +74,42 @@ fn attribute_number(name: &[u8]) -> usize
     }
 }
 
-// From the last line to the first, so that the first of a name counts.
-pub fn gather(
-    s: &[u8],
-    l: Layout,
-    from: usize,
-    count: usize,
-    starts: &mut [usize; SLOTS],
-    lengths: &mut [usize; SLOTS],
-)
-    requires { Accepted s.now l × (from + count ≤ l.attributes) × (starts.old ≡ replicate slot_count 0) × (lengths.old ≡ replicate slot_count 0) }
-    ensures { Slots s.now l from count starts.new lengths.new }
-{
-    let mut n = count;
-    while n > 0 {
-        let a = attribute_at(s, l, from + (n - 1));
-        let k = attribute_number(part(s, l, a.name_at, a.name_len));
-        starts[k] = a.value_at + 1;
-        lengths[k] = a.value_len;
-        n -= 1;
+// Where the values of a row's attributes lie, by the numbers of their names.
+#[derive(Clone, Copy, Debug, PartialEq, Eq)]
+pub struct Slots {
+    pub spans: [Option<Span>; SLOTS],
+}
+
+impl Slots {
+    // Fills empty slots from count attribute lines from line from on, from the last to the first, so that the first of a name counts. They
+    // are filled in place, since to hand them out whole takes longer.
+    pub fn gather(&mut self, s: &[u8], l: Layout, from: usize, count: usize)
+        requires { Accepted s.now l × (from + count ≤ l.attributes) × (self.old.spans ≡ replicate slot_count None) }
+        ensures { SlotsOf s.now l from count self.new.spans }
+    {
+        for n in (0..count).rev() {
+            let a = attribute_at(s, l, from + n);
+            let k = attribute_number(part(s, l, a.name_at, a.name_len));
+            self.spans[k] = Some(Span {
+                at: a.value_at,
+                len: a.value_len,
+            });
+        }
     }
-}
 
-// `has_attr(node, name)`: whether slot k has an attribute, perhaps an empty one.
-pub fn is_there(starts: &[usize; SLOTS], k: usize) -> bool
-    requires { k < slot_count }
-    ensures { result ≡ slot_is_there (get_or starts.now k 0) }
-{
-    starts[k] != 0
-}
-
-// The attribute in a slot.
-fn in_slot(at: usize, len: usize) -> AttributeAt
-    ensures { result ≡ slot at len }
-{
-    if at == 0 {
-        return AttributeAt::Absent;
+    // `has_attr(node, name)`: whether slot k has an attribute, perhaps an empty one.
+    pub fn is_there(&self, k: usize) -> bool
+        requires { k < slot_count }
+        ensures { result ≡ slot_is_there (get_or self.now.spans k None) }
+    {
+        self.spans[k].is_some()
     }
-    AttributeAt::At { at: at - 1, len }
-}
 
-// `attr(node, name)`: an absent one reads as empty.
-pub fn value(s: &[u8], l: Layout, at: usize, len: usize) -> &[u8]
-    requires { Accepted s.now l × SlotInside l at len }
-    ensures { result.now ≡ slot_value s.now l at len }
-{
-    or_empty(s, l, in_slot(at, len))
-}
-
-// The value in slot k.
-pub fn held<'a, 'b, 'c>(
-    s: &'a [u8],
-    l: Layout,
-    starts: &'b [usize; SLOTS],
-    lengths: &'c [usize; SLOTS],
-    k: usize,
-) -> &'a [u8]
-    requires { Accepted s.now l × Readable l starts.now lengths.now × (k < slot_count) }
-    ensures { (result.now ≡ slot_value s.now l (get_or starts.now k 0) (get_or lengths.now k 0)) × (length result.now ≤ pool_limit l.width) }
-{
-    value(s, l, starts[k], lengths[k])
+    // `attr(node, name)`: the value in slot k; an absent one reads as empty.
+    pub fn value<'a, 'b>(&'b self, s: &'a [u8], l: Layout, k: usize) -> &'a [u8]
+        requires { Accepted s.now l × Readable l self.now.spans × (k < slot_count) }
+        ensures { (result.now ≡ slot_value s.now l (get_or self.now.spans k None)) × (length result.now ≤ pool_limit l.width) }
+    {
+        or_empty(s, l, self.spans[k])
+    }
 }

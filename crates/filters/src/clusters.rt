@@ -17,10 +17,7 @@ fn near_or_cluster(s: &[u8], l: Layout, i: usize, depth: usize, bound: usize) ->
     requires { Accepted s.now l × (i < l.nodes) }
     ensures { result ≡ (ltb depth bound || cluster_at s.now l i fifth_of_any) }
 {
-    if depth < bound {
-        return true;
-    }
-    link_cluster(s, l, i, Rule::fifth_of_any())
+    depth < bound || link_cluster(s, l, i, Rule::fifth_of_any())
 }
 
 // A footer's answer.
@@ -28,40 +25,28 @@ pub fn footer(s: &[u8], l: Layout, i: usize, depth: usize, stack: &[usize]) -> b
     requires { Accepted s.now l × (i < l.nodes) × Above (depths s.now l) i stack.now }
     ensures { result ≡ cond (ltb depth 3 || cluster_at s.now l i fifth_of_any) false (followed (node_at s.now l) (depths s.now l) i) }
 {
-    if near_or_cluster(s, l, i, depth, 3) {
-        return false;
-    }
-    followed(s, l, i, stack)
+    !near_or_cluster(s, l, i, depth, 3) && followed(s, l, i, stack)
 }
 
 pub fn ul_cluster(s: &[u8], l: Layout, i: usize, tag: u8, depth: usize) -> bool
     requires { Accepted s.now l × (i < l.nodes) }
     ensures { result ≡ (is_ul tag && (ltb depth 4 || cluster_at s.now l i fifth_of_any)) }
 {
-    if tag != tags::UL {
-        return false;
-    }
-    near_or_cluster(s, l, i, depth, 4)
+    tag == tags::UL && near_or_cluster(s, l, i, depth, 4)
 }
 
 fn deep_cluster(s: &[u8], l: Layout, i: usize, depth: usize, rule: Rule) -> bool
     requires { Accepted s.now l × (i < l.nodes) }
     ensures { result ≡ (ltb 2 depth && cluster_at s.now l i rule) }
 {
-    if depth <= 2 {
-        return false;
-    }
-    link_cluster(s, l, i, rule)
+    depth > 2 && link_cluster(s, l, i, rule)
 }
 
 pub fn article_cluster(s: &[u8], l: Layout, i: usize, tag: u8, depth: usize) -> bool
     requires { Accepted s.now l × (i < l.nodes) }
     ensures { result ≡ (is_article tag && (ltb 2 depth && cluster_at s.now l i fifth_of500)) }
 {
-    if tag != tags::ARTICLE {
-        return false;
-    }
-    deep_cluster(s, l, i, depth, Rule::fifth_of_500())
+    tag == tags::ARTICLE && deep_cluster(s, l, i, depth, Rule::fifth_of_500())
 }
 
 // The answer for an element without class and id.
@@ -69,21 +54,12 @@ pub fn unnamed(s: &[u8], l: Layout, i: usize, tag: u8, depth: usize) -> bool
     requires { Accepted s.now l × (i < l.nodes) }
     ensures { result ≡ (not (is_div tag) || (leb depth 5 || not (cluster_at s.now l i three_fifths_of800))) }
 {
-    if tag != tags::DIV {
-        return true;
-    }
-    if depth <= 5 {
-        return true;
-    }
-    !link_cluster(s, l, i, Rule::three_fifths_of_800())
+    tag != tags::DIV || depth <= 5 || !link_cluster(s, l, i, Rule::three_fifths_of_800())
 }
 
 pub fn div_cluster(s: &[u8], l: Layout, i: usize, tag: u8, depth: usize) -> bool
     requires { Accepted s.now l × (i < l.nodes) }
     ensures { result ≡ (ltb 2 depth && (is_div tag && cluster_at s.now l i three_fifths_of1500)) }
 {
-    if tag != tags::DIV {
-        return false;
-    }
-    deep_cluster(s, l, i, depth, Rule::three_fifths_of_1500())
+    tag == tags::DIV && deep_cluster(s, l, i, depth, Rule::three_fifths_of_1500())
 }

@@ -1,25 +1,21 @@
 // The rows above a row: the nearest body, and what stands behind a footer and the rows above it.
-ghost use Rattle.std.specs.Prelude.{◌≡◌, ◌<◌, ◌≤◌, drop};
+ghost use Rattle.std.specs.Prelude.{◌≡◌, ◌<◌};
 ghost use Rattle.sheet.specs.Accepted.{Accepted};
 ghost use Rattle.sheet.specs.Layout.{depths};
 ghost use Rattle.tree.specs.Page.{node_at};
-ghost use Rattle.tree.specs.Rows.{next_sibling_of, past_from, past_of};
-ghost use Rattle.filters.specs.Footer.{Above, body_above, content_follows, followed, is_body, is_some};
+ghost use Rattle.tree.specs.Rows.{next_sibling_of, past_of};
+ghost use Rattle.filters.specs.Footer.{Above, body_above, content_follows, followed, is_body};
 
 use sheet::line::Layout;
 use sheet::read::{depth_at, part, row_at};
-use sheet::verdict::Found;
-use tree::relatives::{next_sibling, parent, past};
+use tree::relatives::{next_sibling, parent, past, past_from};
 
 fn is_body(s: &[u8], l: Layout, i: usize) -> bool
     requires { Accepted s.now l × (i < l.nodes) }
     ensures { result ≡ is_body (node_at s.now l i) }
 {
     let row = row_at(s, l, i);
-    if row.kind != 1 {
-        return false;
-    }
-    common::same(part(s, l, row.name_at, row.name_len), b"body")
+    row.kind == 1 && common::same(part(s, l, row.name_at, row.name_len), b"body")
 }
 
 // The nearest row named body at or above row i.
@@ -32,39 +28,12 @@ pub fn body_above(s: &[u8], l: Layout, i: usize) -> usize
         if is_body(s, l, row) {
             return row;
         }
-        let Found::At(above) = parent(s, l, row) else {
+        let Some(above) = parent(s, l, row) else {
             return row;
         };
         row = above;
     }
     row
-}
-
-// The first row from row from on that is not deeper than d.
-fn past_from(s: &[u8], l: Layout, d: usize, from: usize) -> usize
-    requires { Accepted s.now l × (from ≤ l.nodes) }
-    ensures { result ≡ past_from d from (drop from (depths s.now l)) }
-{
-    let nodes = l.nodes;
-    let mut j = from;
-    while j < nodes {
-        let x = depth_at(s, l, j);
-        if x <= d {
-            return j;
-        }
-        j += 1;
-    }
-    j
-}
-
-fn has_next(s: &[u8], l: Layout, i: usize) -> bool
-    requires { Accepted s.now l × (i < l.nodes) }
-    ensures { result ≡ is_some (next_sibling_of (depths s.now l) i) }
-{
-    match next_sibling(s, l, i) {
-        Found::At(next) => true,
-        Found::Nothing => false,
-    }
 }
 
 // Whether content follows row, end being the first row past it.
@@ -76,13 +45,7 @@ fn content_follows(s: &[u8], l: Layout, row: usize, end: usize) -> bool
         return false;
     }
     let next = row_at(s, l, end);
-    if next.depth != depth_at(s, l, row) {
-        return false;
-    }
-    if next.kind != 3 {
-        return true;
-    }
-    has_next(s, l, end)
+    next.depth == depth_at(s, l, row) && (next.kind != 3 || next_sibling(s, l, end).is_some())
 }
 
 // The loop over a footer's parents, which stand in `stack` by their depths.
@@ -91,10 +54,8 @@ pub fn followed(s: &[u8], l: Layout, i: usize, stack: &[usize]) -> bool
     ensures { result ≡ followed (node_at s.now l) (depths s.now l) i }
 {
     let mut row = i;
-    let mut depth = depth_at(s, l, i);
     let mut end = past(s, l, i);
-    while depth > 0 {
-        depth -= 1;
+    for depth in (0..depth_at(s, l, i)).rev() {
         let above = stack[depth];
         if is_body(s, l, above) {
             return false;

@@ -12,14 +12,14 @@ ghost use Rattle.tags.specs.Tags.{tag_of};
 ghost use Rattle.tree.specs.Attributes.{attributes_from};
 ghost use Rattle.tree.specs.Node.{Attribute};
 ghost use Rattle.tree.specs.Page.{node_at};
-ghost use Rattle.filters.specs.Classes.{Joinable, Tables};
+ghost use Rattle.filters.specs.Classes.{Joinable};
 ghost use Rattle.filters.specs.Filters.{by_attributes, by_block, by_class_and_id, by_name, is_main_content, logo_or_ad};
 ghost use Rattle.filters.specs.Footer.{Above};
 ghost use Rattle.filters.specs.Gathered.{Gathered, Readable};
 ghost use Rattle.filters.specs.Sheet.{cluster_at, IsTag, tag_number};
 
 use crate::attributes;
-use crate::attributes::{SLOTS, gather, held};
+use crate::attributes::{SLOTS, Slots};
 use crate::classes::{
     article, comment_section, landmark, not_displayed, signin_meta_or_social, skip_link,
 };
@@ -28,45 +28,26 @@ use crate::icon::is_icon;
 use crate::names::{is_dropped, is_kept, not_block};
 use crate::values::{ad_attribute, hidden_by_attribute, rel_main, role_outside};
 use options::ExtractOptions;
-use patterns::masks::Masks;
-use patterns::table::Steps;
-use patterns::{candidates, matches_among};
+use patterns::{Pattern, candidates, matches_among};
 use sheet::line::Layout;
 use sheet::read::{part, row_at};
 
-fn logo_or_ad(
-    steps: &Steps,
-    masks: &Masks,
-    set: u32,
-    both: u32,
-    starts: &[usize; SLOTS],
-    class: &[u8],
-    id: &[u8],
-) -> bool
-    requires { Tables steps.now masks.now × Joinable class.now id.now × Candidates set class.now × Candidates both (joined class.now id.now) }
-    ensures { (s : List ℕ) (l : Layout) (attributes : List Attribute) (lengths : List ℕ) → Gathered s l attributes starts.now lengths → result ≡ logo_or_ad attributes class.now (joined class.now id.now) }
+fn logo_or_ad(set: u32, both: u32, slots: &Slots, class: &[u8], id: &[u8]) -> bool
+    requires { Joinable class.now id.now × Candidates set class.now × Candidates both (joined class.now id.now) }
+    ensures { (s : List ℕ) (l : Layout) (attributes : List Attribute) → Gathered s l attributes slots.now.spans → result ≡ logo_or_ad attributes class.now (joined class.now id.now) }
 {
-    if matches_among(steps, masks, both, patterns::LOGO_CLS, class, id) {
-        return true;
-    }
-    if matches_among(steps, masks, both, patterns::ADS_CLS, class, id) {
-        return true;
-    }
-    if ad_attribute(starts) {
-        return true;
-    }
-    matches_among(steps, masks, set, patterns::OTHER_JUNK_CLS, b"", class)
+    matches_among(both, Pattern::LogoCls, class, id)
+        || matches_among(both, Pattern::AdsCls, class, id)
+        || ad_attribute(slots)
+        || matches_among(set, Pattern::OtherJunkCls, b"", class)
 }
 
 // From `rel` being "main" on.
 fn by_block(
-    steps: &Steps,
-    masks: &Masks,
     both: u32,
     s: &[u8],
     l: Layout,
-    starts: &[usize; SLOTS],
-    lengths: &[usize; SLOTS],
+    slots: &Slots,
     o: ExtractOptions,
     i: usize,
     tag: u8,
@@ -74,22 +55,22 @@ fn by_block(
     class: &[u8],
     id: &[u8],
 ) -> bool
-    requires { Tables steps.now masks.now × Accepted s.now l × (i < l.nodes) × Readable l starts.now lengths.now × IsTag tag × Joinable class.now id.now × Candidates both (joined class.now id.now) }
-    ensures { (name : Bytes) (attributes : List Attribute) → tag ≡ tag_of name → Gathered s.now l attributes starts.now lengths.now → result ≡ by_block o (cluster_at s.now l i) depth name attributes class.now id.now }
+    requires { Accepted s.now l × (i < l.nodes) × Readable l slots.now.spans × IsTag tag × Joinable class.now id.now × Candidates both (joined class.now id.now) }
+    ensures { (name : Bytes) (attributes : List Attribute) → tag ≡ tag_of name → Gathered s.now l attributes slots.now.spans → result ≡ by_block o (cluster_at s.now l i) depth name attributes class.now id.now }
 {
-    if rel_main(s, l, starts, lengths) {
+    if rel_main(s, l, slots) {
         return true;
     }
-    if role_outside(s, l, starts, lengths) {
+    if role_outside(s, l, slots) {
         return false;
     }
-    if comment_section(steps, masks, both, o.comments, class, id) {
+    if comment_section(both, o.comments, class, id) {
         return false;
     }
-    if article(steps, masks, both, tag, class, id) {
+    if article(both, tag, class, id) {
         return true;
     }
-    if landmark(steps, masks, both, class, id) {
+    if landmark(both, class, id) {
         return false;
     }
     !div_cluster(s, l, i, tag, depth)
@@ -97,13 +78,10 @@ fn by_block(
 
 // From `combined` on.
 fn by_class_and_id(
-    steps: &Steps,
-    masks: &Masks,
     set: u32,
     s: &[u8],
     l: Layout,
-    starts: &[usize; SLOTS],
-    lengths: &[usize; SLOTS],
+    slots: &Slots,
     o: ExtractOptions,
     i: usize,
     name: &[u8],
@@ -112,75 +90,63 @@ fn by_class_and_id(
     class: &[u8],
     id: &[u8],
 ) -> bool
-    requires { Tables steps.now masks.now × Accepted s.now l × (i < l.nodes) × Readable l starts.now lengths.now × (tag ≡ tag_of name.now) × Joinable class.now id.now × Candidates set class.now }
-    ensures { (attributes : List Attribute) → Gathered s.now l attributes starts.now lengths.now → result ≡ by_class_and_id o (cluster_at s.now l i) depth name.now attributes class.now id.now }
+    requires { Accepted s.now l × (i < l.nodes) × Readable l slots.now.spans × (tag ≡ tag_of name.now) × Joinable class.now id.now × Candidates set class.now }
+    ensures { (attributes : List Attribute) → Gathered s.now l attributes slots.now.spans → result ≡ by_class_and_id o (cluster_at s.now l i) depth name.now attributes class.now id.now }
 {
-    let both = candidates(masks, class, id);
-    if skip_link(steps, masks, both, tag, class, id) {
+    let both = candidates(class, id);
+    if skip_link(both, tag, class, id) {
         return false;
     }
-    if signin_meta_or_social(steps, masks, set, o.post_meta, depth, class) {
+    if signin_meta_or_social(set, o.post_meta, depth, class) {
         return false;
     }
-    if logo_or_ad(steps, masks, set, both, starts, class, id) {
+    if logo_or_ad(set, both, slots, class, id) {
         return false;
     }
     if not_block(name, tag) {
         return true;
     }
-    by_block(
-        steps, masks, both, s, l, starts, lengths, o, i, tag, depth, class, id,
-    )
+    by_block(both, s, l, slots, o, i, tag, depth, class, id)
 }
 
 fn are_empty(class: &[u8], id: &[u8]) -> bool
     ensures { result ≡ (is_empty class.now && is_empty id.now) }
 {
-    if class.len() != 0 {
-        return false;
-    }
-    id.len() == 0
+    class.is_empty() && id.is_empty()
 }
 
 // From `hidden` on.
 fn by_attributes(
-    steps: &Steps,
-    masks: &Masks,
     s: &[u8],
     l: Layout,
-    starts: &[usize; SLOTS],
-    lengths: &[usize; SLOTS],
+    slots: &Slots,
     o: ExtractOptions,
     i: usize,
     name: &[u8],
     tag: u8,
     depth: usize,
 ) -> bool
-    requires { Tables steps.now masks.now × Accepted s.now l × (i < l.nodes) × Readable l starts.now lengths.now × (tag ≡ tag_of name.now) }
-    ensures { (attributes : List Attribute) → Gathered s.now l attributes starts.now lengths.now → result ≡ by_attributes o (cluster_at s.now l i) depth name.now attributes }
+    requires { Accepted s.now l × (i < l.nodes) × Readable l slots.now.spans × (tag ≡ tag_of name.now) }
+    ensures { (attributes : List Attribute) → Gathered s.now l attributes slots.now.spans → result ≡ by_attributes o (cluster_at s.now l i) depth name.now attributes }
 {
-    if hidden_by_attribute(s, l, starts, lengths) {
+    if hidden_by_attribute(s, l, slots) {
         return false;
     }
-    let class = held(s, l, starts, lengths, attributes::CLASS);
-    let id = held(s, l, starts, lengths, attributes::ID);
-    let style = held(s, l, starts, lengths, attributes::STYLE);
-    let set = candidates(masks, b"", class);
-    if not_displayed(steps, masks, set, o.hidden_elements, class, style) {
+    let class = slots.value(s, l, attributes::CLASS);
+    let id = slots.value(s, l, attributes::ID);
+    let style = slots.value(s, l, attributes::STYLE);
+    let set = candidates(b"", class);
+    if not_displayed(set, o.hidden_elements, class, style) {
         return false;
     }
     if are_empty(class, id) {
         return unnamed(s, l, i, tag, depth);
     }
-    by_class_and_id(
-        steps, masks, set, s, l, starts, lengths, o, i, name, tag, depth, class, id,
-    )
+    by_class_and_id(set, s, l, slots, o, i, name, tag, depth, class, id)
 }
 
 // An element with count attribute lines from line first on.
 fn by_name(
-    steps: &Steps,
-    masks: &Masks,
     s: &[u8],
     l: Layout,
     o: ExtractOptions,
@@ -192,7 +158,7 @@ fn by_name(
     depth: usize,
     stack: &[usize],
 ) -> bool
-    requires { Tables steps.now masks.now × Accepted s.now l × (i < l.nodes) × (tag ≡ tag_of name.now) × (first + count ≤ l.attributes) × Above (depths s.now l) i stack.now }
+    requires { Accepted s.now l × (i < l.nodes) × (tag ≡ tag_of name.now) × (first + count ≤ l.attributes) × Above (depths s.now l) i stack.now }
     ensures { result ≡ by_name (node_at s.now l) (depths s.now l) o i depth name.now (attributes_from s.now l first count) }
 {
     if is_kept(name, tag) {
@@ -210,18 +176,15 @@ fn by_name(
     if is_dropped(name, tag) {
         return false;
     }
-    let mut starts = [0; SLOTS];
-    let mut lengths = [0; SLOTS];
-    gather(s, l, first, count, &mut starts, &mut lengths);
-    by_attributes(
-        steps, masks, s, l, &starts, &lengths, o, i, name, tag, depth,
-    )
+    let mut slots = Slots {
+        spans: [None; SLOTS],
+    };
+    slots.gather(s, l, first, count);
+    by_attributes(s, l, &slots, o, i, name, tag, depth)
 }
 
 // Row i, with the number of its tag, its first attribute line, its depth below body and the rows that it stands in.
 pub fn is_main_content(
-    steps: &Steps,
-    masks: &Masks,
     s: &[u8],
     l: Layout,
     o: ExtractOptions,
@@ -231,7 +194,7 @@ pub fn is_main_content(
     depth: usize,
     stack: &[usize],
 ) -> bool
-    requires { Tables steps.now masks.now × Accepted s.now l × (i < l.nodes) × (tag ≡ tag_number s.now l i) × (first ≡ counts_from s.now l 0 i) × Above (depths s.now l) i stack.now }
+    requires { Accepted s.now l × (i < l.nodes) × (tag ≡ tag_number s.now l i) × (first ≡ counts_from s.now l 0 i) × Above (depths s.now l) i stack.now }
     ensures { result ≡ is_main_content (node_at s.now l) (depths s.now l) o i depth }
 {
     let row = row_at(s, l, i);
@@ -242,8 +205,6 @@ pub fn is_main_content(
         return true;
     }
     by_name(
-        steps,
-        masks,
         s,
         l,
         o,

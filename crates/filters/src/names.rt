@@ -8,38 +8,24 @@ pub fn is_kept(name: &[u8], tag: u8) -> bool
     requires { tag ≡ tag_of name.now }
     ensures { result ≡ one_of name.now (words "body main h1") }
 {
-    if tag == tags::MAIN {
-        return true;
+    match tag {
+        tags::MAIN | tags::H1 => true,
+        tags::OTHER => common::same(name, b"body"),
+        _ => false,
     }
-    if tag == tags::H1 {
-        return true;
-    }
-    if tag != tags::OTHER {
-        return false;
-    }
-    common::same(name, b"body")
 }
 
 pub fn is_dropped(name: &[u8], tag: u8) -> bool
     requires { tag ≡ tag_of name.now }
     ensures { result ≡ one_of name.now (words "nav aside audio video time") }
 {
-    if tag == tags::NAV {
-        return true;
+    match tag {
+        tags::NAV | tags::ASIDE => true,
+        tags::OTHER => common::same(name, b"audio")
+            || common::same(name, b"video")
+            || common::same(name, b"time"),
+        _ => false,
     }
-    if tag == tags::ASIDE {
-        return true;
-    }
-    if tag != tags::OTHER {
-        return false;
-    }
-    if common::same(name, b"audio") {
-        return true;
-    }
-    if common::same(name, b"video") {
-        return true;
-    }
-    common::same(name, b"time")
 }
 
 // td is no block, and is told from th by its name.
@@ -47,14 +33,9 @@ pub fn not_block(name: &[u8], tag: u8) -> bool
     requires { tag ≡ tag_of name.now }
     ensures { result ≡ not_block name.now }
 {
-    if tag == tags::OTHER {
-        return true;
+    match tag {
+        tags::OTHER => true,
+        tags::CELL => !common::same(name, b"td"),
+        _ => tag > tags::TABLE,
     }
-    if tags::TABLE < tag {
-        return true;
-    }
-    if tag == tags::CELL {
-        return !common::same(name, b"td");
-    }
-    false
 }

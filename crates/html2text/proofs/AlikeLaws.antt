@@ -1,5 +1,6 @@
 -- Trees that are alike give the same events, visits and pieces but for row numbers, and pages that are alike the same extraction; pages of
 -- the same rows are alike.
+use Rattle.std.specs.Prelude.{Result, Ok, Err}
 use mathlib.Core.Path.{◌≡◌, refl, sym, ap, ap₂, subst, ◌∙◌}
 use mathlib.Core.Bool.{Bool, true, false, ◌&&◌, ◌||◌, cond}
 use mathlib.Core.List.{List, [], ◌∷◌, ◌++◌, map, map-append, map-id}
@@ -13,7 +14,6 @@ use Rattle.options.specs.declared.ExtractOptions.{ExtractOptions}
 use Rattle.options.specs.declared.Formatting.{Formatting}
 use Rattle.sheet.specs.Verdict.{verdict}
 use Rattle.sheet.specs.declared.line.Layout.{Layout}
-use Rattle.sheet.specs.declared.verdict.Verdict.TheVariants.{Sheet}
 use Rattle.sheet.proofs.Acceptance.{accepts}
 use Rattle.tree.specs.Forest.{Forest, empty, node, has_trees}
 use Rattle.tree.specs.Node.{Node}
@@ -21,15 +21,16 @@ use Rattle.tree.specs.Page.{Page, page_of, SamePage}
 use Rattle.tree.specs.Rows.{build, numbered, children_of}
 use Rattle.tree.proofs.Order.{trichotomy, build_deeper, build_here, build_less}
 use Rattle.writer.specs.Out.{greater}
-use Rattle.html2text.specs.Alike.{event_by, entry_by, piece_by, line_by, run_by, extraction_by, SameNumbers, RowsAlike, Alike, SameWalk, PagesAlike, SameExtraction, SameAnswers}
+use Rattle.html2text.specs.Alike.{event_by, entry_by, piece_by, line_by, run_by, error_by, extraction_by, SameNumbers, RowsAlike, Alike, SameWalk, PagesAlike, SameExtraction, SameAnswers}
 use Rattle.html2text.specs.Collect.{Event, Entry, pushes, pushed, amended, on_last, collect, collect_all}
 use Rattle.html2text.specs.Extract.{Run, going, too_many_levels, too_many_rows, passes_levels, passes_rows, taken, serialized, longest_text, names_length, longest_names, concluded, out_then, work_then, hidden, entries, passes, work_need, extraction, out_after, work_after, filtered_by, extraction_of, out_after_of, work_after_of}
 use Rattle.html2text.specs.Pieces.{Piece, row_pieces, along, pieces}
 use Rattle.html2text.specs.Serialize.{one}
 use Rattle.html2text.specs.Walk.{is_comment, left_out, events, visits, tree_of}
-use Rattle.html2text.specs.declared.Extraction.{Extraction}
+use Rattle.html2text.specs.declared.Extracted.{Extracted}
+use Rattle.html2text.specs.declared.ExtractError.{ExtractError}
 use Rattle.html2text.proofs.PageLaws.{page_right}
-use Rattle.html2text.specs.declared.Extraction.TheVariants.{Text, Refused, ListLevels, OpenRows, WorkTooShort, OutTooShort}
+use Rattle.html2text.specs.declared.ExtractError.TheVariants.{Refused, ListLevels, OpenRows, WorkTooShort, OutTooShort}
 
 -- ---- where no number changes
 
@@ -41,13 +42,16 @@ pieces_unchanged : (ps : List Piece) → map (piece_by (λ i. i)) ps ≡ ps
 pieces_unchanged [] = refl
 pieces_unchanged (p ∷ ps) = λ k. record { path = map-id p.path k; bytes = p.bytes } ∷ pieces_unchanged ps k
 
-answer_unchanged : (x : Extraction) → extraction_by (λ i. i) x ≡ x
-answer_unchanged (Text visits len) = refl
-answer_unchanged (Refused v) = refl
-answer_unchanged (ListLevels line) = ap ListLevels (line_unchanged line)
-answer_unchanged (OpenRows line) = ap OpenRows (line_unchanged line)
-answer_unchanged (WorkTooShort need) = refl
-answer_unchanged (OutTooShort need) = refl
+error_unchanged : (e : ExtractError) → error_by (λ i. i) e ≡ e
+error_unchanged (Refused e) = refl
+error_unchanged (ListLevels line) = ap ListLevels (line_unchanged line)
+error_unchanged (OpenRows line) = ap OpenRows (line_unchanged line)
+error_unchanged (WorkTooShort need) = refl
+error_unchanged (OutTooShort need) = refl
+
+answer_unchanged : (x : Result Extracted ExtractError) → extraction_by (λ i. i) x ≡ x
+answer_unchanged (Ok x) = refl
+answer_unchanged (Err e) = ap Err (error_unchanged e)
 
 pub same_numbers : SameNumbers
 same_numbers = record { pieces = pieces_unchanged; answer = answer_unchanged }
@@ -294,7 +298,7 @@ module _ (filtered₁ : ℕ → Bool) (p₁ : Page) (filtered₂ : ℕ → Bool)
 -- ---- byte strings
 
 module _ (filters : (ℕ → Node) → List ℕ → ℕ → ExtractOptions → ℕ → Bool) where
-  pub same_answers : (s₁ s₂ : Bytes) (l₁ l₂ : Layout) (o : ExtractOptions) → verdict s₁ ≡ Sheet l₁ → verdict s₂ ≡ Sheet l₂
+  pub same_answers : (s₁ s₂ : Bytes) (l₁ l₂ : Layout) (o : ExtractOptions) → verdict s₁ ≡ Ok l₁ → verdict s₂ ≡ Ok l₂
       → SamePage (page_of s₁ l₁) (page_of s₂ l₂) → o.main_content ≡ false → SameAnswers filters s₁ s₂ o
   unfolding extraction_of out_after_of work_after_of
   same_answers s₁ s₂ l₁ l₂ o first second same off =

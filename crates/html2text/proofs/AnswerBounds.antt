@@ -1,4 +1,5 @@
 -- How large the numbers of an extraction's answer can grow, by the rows and the pool of its sheet.
+use Rattle.std.specs.Prelude.{Result}
 use mathlib.Core.Path.{subst}
 use mathlib.Core.Bool.{Bool, cond}
 use mathlib.Core.List.{List, [], ◌∷◌}
@@ -24,7 +25,8 @@ use Rattle.html2text.specs.Collect.{Event, Entry, pushes, amended, on_last, coll
 use Rattle.html2text.specs.Extract.{Run, going, too_many_levels, too_many_rows, passes_levels, passes_rows, taken, serialized, longest_text, names_length, longest_names, concluded, hidden, entries, passes, work_need, extraction, numbers}
 use Rattle.html2text.specs.Fused.{idle, closed, fed_all}
 use Rattle.html2text.specs.Walk.{events, tree_of}
-use Rattle.html2text.specs.declared.Extraction.{Extraction}
+use Rattle.html2text.specs.declared.ExtractError.{ExtractError}
+use Rattle.html2text.specs.declared.Extracted.{Extracted}
 use Rattle.html2text.proofs.BoundLaws.{state_more, run_within}
 use Rattle.html2text.proofs.FusionLaws.{fusion}
 use Rattle.html2text.proofs.GoingLaws.{going_more}
@@ -94,7 +96,7 @@ most l = (2 * l.nodes + 1) * written_by l
 concluded_bounded : (l : Layout) (k need visited : ℕ) (R : Run) (out work : ℕ) → need ≤ most l → visited ≤ 2 * l.nodes → LineIn l.nodes R → Going (StateWithin k (most l) 0) R
     → AnswerBounded l out (numbers (concluded need visited R out work))
 concluded_bounded l k need visited (going S) out work n v i h =
-    let P : Extraction → Type 0 = λ x. AnswerBounded l out (numbers x) in
+    let P : Result Extracted ExtractError → Type 0 = λ x. AnswerBounded l out (numbers x) in
     by_cond P (ltb work need) (λ e. record { number = omega arith; second = n; visits = omega arith; length = omega arith })
     (λ e. by_cond P (ltb out S.out.peak) (λ d. record { number = omega arith; second = omega (arith, h.peak); visits = omega arith; length = omega arith })
     (λ d. record { number = omega arith; second = omega arith; visits = v; length = omega (arith, rstrip_length is_space S.out.text, h.below, ltb-false out S.out.peak d) }))

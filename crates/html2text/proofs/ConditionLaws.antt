@@ -1,7 +1,7 @@
 -- The conditions of a page on parents and cells, over its tree.
+use Rattle.std.specs.Prelude.{Option, Some}
 use mathlib.Core.Path.{◌≡◌, refl}
 use mathlib.Core.Bool.{Bool, true, false, ◌||◌}
-use mathlib.Core.Option.{Option, some}
 use Prim.Native.Nat.{ℕ, ◌<◌}
 use lib.ListN.{length}
 use Rattle.common.proofs.Choice.{absurd_test}
@@ -52,7 +52,7 @@ module _ (p : Page) where
       row : ℕ
       inside : row < length p.depths
       is_cell : is_cell_node (p.node row) ≡ true
-      later : (j : ℕ) → c ≡ some j → LaterSibling p.depths row j
+      later : (j : ℕ) → c ≡ Some j → LaterSibling p.depths row j
 
     cells_of : (f : Forest ℕ) (c : Option ℕ) (q : ℕ) (before : Bool) → Stands p.depths p.root f c q → (before ≡ true → Behind c)
         → Cells p.node hidden before f

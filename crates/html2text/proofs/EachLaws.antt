@@ -1,7 +1,7 @@
 -- What holds of every event of the walk.
+use Rattle.std.specs.Prelude.{Option}
 use mathlib.Core.Bool.{Bool, true, false, cond}
 use mathlib.Core.List.{List, [], ◌∷◌, ◌++◌}
-use mathlib.Core.Option.{Option}
 use Prim.Native.Nat.{ℕ, suc, ◌<◌}
 use lib.ListN.{length}
 use Rattle.tree.specs.Forest.{Forest, empty, node, has_trees}

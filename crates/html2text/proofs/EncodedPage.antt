@@ -1,9 +1,8 @@
 -- The rows of an accepted sheet hold UTF-8, and so does every entry that `collect` makes of them.
+use Rattle.std.specs.Prelude.{Option, None, Some, unwrap_or}
 use mathlib.Core.Path.{refl}
 use mathlib.Core.Bool.{Bool, true, false, ◌&&◌, ◌||◌, not}
 use mathlib.Core.List.{List, [], ◌∷◌}
-use mathlib.Core.Option.{Option, some, get_or}
-use mathlib.Core.Option as option
 use Prim.Native.Nat.{ℕ, zero, suc, ◌+◌, ◌≤◌, ◌<◌}
 use native.Mathlib.Omega.{arith}
 use Rattle.common.specs.Bytes.{Bytes, codes, same, is_empty}
@@ -58,9 +57,9 @@ module _ (o : ExtractOptions) (n : Node) (h : Utf8Node n) where
   unfolding valid expect codes
   alt_octets = go (attribute n.attributes (codes "alt")) (h.attributes (codes "alt"))
     where
-      go : (a : Option Bytes) → UTF8_octets (or_empty a) → UTF8_octets (get_or a (missing_alt o.missing_alt))
-      go (some value) q = q
-      go option.none q = by_cond UTF8_octets o.missing_alt (λ _. octets_valid (missing_alt true) refl) (λ _. none)
+      go : (a : Option Bytes) → UTF8_octets (or_empty a) → UTF8_octets (unwrap_or a (missing_alt o.missing_alt))
+      go (Some value) q = q
+      go None q = by_cond UTF8_octets o.missing_alt (λ _. octets_valid (missing_alt true) refl) (λ _. none)
 
   element_octets : (end : Bool) → UTF8_octets (added_by_element o n end)
   unfolding added_by_element valid expect codes
@@ -92,7 +91,7 @@ module _ {s : Bytes} {l : Layout} (accepted : Accepted s l) where
   attribute_octets name j (suc n) h = go (same (name_at s l j) name) (attribute_octets name (suc j) n (omega arith))
     where
       go : (b : Bool) → UTF8_octets (attribute_or_empty (attributes_from s l (suc j) n) name)
-          → UTF8_octets (get_or {A = Bytes} (elim b [ true ↦ some (value_at s l j) | false ↦ attribute (attributes_from s l (suc j) n) name ]) [])
+          → UTF8_octets (unwrap_or (elim b [ true ↦ Some (value_at s l j) | false ↦ attribute (attributes_from s l (suc j) n) name ]) [])
       go true q = octets_valid (value_at s l j) (accepted.attribute_value j (omega arith)).utf8
       go false q = q
 

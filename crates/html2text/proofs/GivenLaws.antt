@@ -1,4 +1,5 @@
 -- A text that is given is that of a run to its end over an accepted sheet.
+use Rattle.std.specs.Prelude.{Result, Ok, Err}
 use mathlib.Core.Path.{◌≡◌, refl, sym, ap, ◌∙◌}
 use mathlib.Core.Bool.{Bool, true, false, cond}
 use mathlib.Core.List.{List}
@@ -11,16 +12,16 @@ use Rattle.common.proofs.Choice.{absurd_test}
 use Rattle.options.specs.declared.ExtractOptions.{ExtractOptions}
 use Rattle.sheet.specs.Verdict.{verdict}
 use Rattle.sheet.specs.declared.line.Layout.{Layout}
-use Rattle.sheet.specs.declared.verdict.Verdict.{Verdict}
-use Rattle.sheet.specs.declared.verdict.Verdict.TheVariants.{Sheet, Length, Format, Counts, Kind, Tree, Range, Encoding}
+use Rattle.sheet.specs.declared.verdict.SheetError.{SheetError}
 use Rattle.tree.specs.Node.{Node}
 use Rattle.tree.specs.Page.{Page, page_of}
 use Rattle.tree.specs.Questions.{on_sheet}
 use Rattle.html2text.specs.Demand3.{Gives}
 use Rattle.html2text.specs.Extract.{Run, going, too_many_levels, too_many_rows, serialized, finished, concluded, out_then, entries, passes, work_need, extraction, out_after, filtered_by, extraction_of, out_after_of}
 use Rattle.html2text.specs.Serialize.{State}
-use Rattle.html2text.specs.declared.Extraction.{Extraction}
-use Rattle.html2text.specs.declared.Extraction.TheVariants.{Text, Refused, ListLevels, OpenRows, WorkTooShort, OutTooShort}
+use Rattle.html2text.specs.declared.ExtractError.{ExtractError}
+use Rattle.html2text.specs.declared.ExtractError.TheVariants.{Refused, WorkTooShort, OutTooShort}
+use Rattle.html2text.specs.declared.Extracted.{Extracted}
 
 -- t is the text of an extraction of the page
 pub record TextOf (filtered : Page → ExtractOptions → ℕ → Bool) (p : Page) (o : ExtractOptions) (t : Bytes) : Type 0 where
@@ -30,13 +31,13 @@ pub record TextOf (filtered : Page → ExtractOptions → ℕ → Bool) (p : Pag
 
 -- ---- an answer that is a text
 
-abbrev is_text : Extraction → Bool
-is_text (Text visits len) = true
-is_text (Refused v) = false
-is_text (ListLevels line) = false
-is_text (OpenRows line) = false
-is_text (WorkTooShort need) = false
-is_text (OutTooShort need) = false
+abbrev is_text : Result Extracted ExtractError → Bool
+is_text (Ok x) = true
+is_text (Err e) = false
+
+abbrev text_length : Result Extracted ExtractError → ℕ
+text_length (Ok x) = x.len
+text_length (Err e) = 0
 
 -- the run has gone to its end, and its text is what is written
 record Concluded (r : Run) (t : Bytes) : Type 0 where
@@ -44,38 +45,32 @@ record Concluded (r : Run) (t : Bytes) : Type 0 where
   run : r ≡ going state
   text : t ≡ finished state
 
-concluded_text : (need visits : ℕ) (r : Run) (out work t : Bytes) (v : ℕ) → concluded need visits r (length out) (length work) ≡ Text v (length t)
+concluded_text : (need visits : ℕ) (r : Run) (out work t : Bytes) (v : ℕ) → concluded need visits r (length out) (length work) ≡ Ok (record { visits = v; len = length t })
     → take (length t) (out_then need visits r out work) ≡ t → Concluded r t
 concluded_text need visits (too_many_levels line) out work t v e f = absurd_test (ap is_text e) refl
 concluded_text need visits (too_many_rows line) out work t v e f = absurd_test (ap is_text e) refl
 concluded_text need visits (going S) out work t v e f = go (ltb (length work) need) (ltb (length out) S.out.peak) e f
   where
-    go : (a b : Bool) → cond a (WorkTooShort need) (cond b (OutTooShort S.out.peak) (Text visits (length (finished S)))) ≡ Text v (length t)
+    go : (a b : Bool) → cond {A = Result Extracted ExtractError} a (Err (WorkTooShort need)) (cond {A = Result Extracted ExtractError} b (Err (OutTooShort S.out.peak)) (Ok (record { visits = visits; len = length (finished S) }))) ≡ Ok (record { visits = v; len = length t })
         → take (length t) (cond a out (cond b out (padded (finished S) (length out)))) ≡ t → Concluded (going S) t
     go true b p q = absurd_test (ap is_text p) refl
     go false true p q = absurd_test (ap is_text p) refl
     go false false p q =
-        let n : length t ≡ length (finished S) = cc in
+        let n : length t ≡ length (finished S) = sym (ap text_length p) in
         record { state = S; run = refl; text = sym q ∙ ap (λ (k : ℕ). take k (padded (finished S) (length out))) n ∙ take-append_seam (finished S) (replicate (length out - length (finished S)) 0) }
 
 -- ---- a sheet that has a text is accepted
 
-pub record SheetOf (v : Verdict) : Type 0 where
+pub record SheetOf (v : Result Layout SheetError) : Type 0 where
   pub layout : Layout
-  pub is_sheet : v ≡ Sheet layout
+  pub is_sheet : v ≡ Ok layout
 
-sheet_of : (ask : Layout → Extraction) (v : Verdict) (visits len : ℕ) → on_sheet ask Refused v ≡ Text visits len → SheetOf v
-sheet_of ask (Sheet l) visits len e = record { layout = l; is_sheet = refl }
-sheet_of ask (Length n) visits len e = absurd_test (ap is_text e) refl
-sheet_of ask (Format line) visits len e = absurd_test (ap is_text e) refl
-sheet_of ask Counts visits len e = absurd_test (ap is_text e) refl
-sheet_of ask (Kind line) visits len e = absurd_test (ap is_text e) refl
-sheet_of ask (Tree line) visits len e = absurd_test (ap is_text e) refl
-sheet_of ask (Range line) visits len e = absurd_test (ap is_text e) refl
-sheet_of ask (Encoding line) visits len e = absurd_test (ap is_text e) refl
+sheet_of : (ask : Layout → Result Extracted ExtractError) (v : Result Layout SheetError) (visits len : ℕ) → on_sheet ask (λ e. Err (Refused e)) v ≡ Ok (record { visits = visits; len = len }) → SheetOf v
+sheet_of ask (Ok l) visits len e = record { layout = l; is_sheet = refl }
+sheet_of ask (Err x) visits len e = absurd_test (ap is_text e) refl
 
 module _ (filters : (ℕ → Node) → List ℕ → ℕ → ExtractOptions → ℕ → Bool) where
-  pub gives_text : {s : Bytes} {o : ExtractOptions} {out work t : Bytes} (l : Layout) → verdict s ≡ Sheet l → Gives filters s o out work t → TextOf (filtered_by filters) (page_of s l) o t
+  pub gives_text : {s : Bytes} {o : ExtractOptions} {out work t : Bytes} (l : Layout) → verdict s ≡ Ok l → Gives filters s o out work t → TextOf (filtered_by filters) (page_of s l) o t
   unfolding extraction_of out_after_of extraction out_after
   gives_text {s} {o} {out} {work} {t} l e g =
       let p = page_of s l in

@@ -20,7 +20,7 @@ use Rattle.tree.specs.Page.{Page}
 use Rattle.html2text.specs.Collect.{Event, Entry, tag_number, pushes, pushed, amended, on_last, collect, collect_all}
 use Rattle.html2text.specs.Extract.{going, serialized}
 use Rattle.html2text.specs.Levels.{depth_after}
-use Rattle.html2text.specs.Serialize.{State, count_uncollapsed, changes_level, level, after, step}
+use Rattle.html2text.specs.Serialize.{State, count_uncollapsed, changes_level, level, step}
 use Rattle.html2text.specs.Theorems.{LevelMet}
 use Rattle.html2text.specs.Walk.{left_out, event_at, events, tree_of}
 use Rattle.html2text.specs.declared.ExtractNode.{ExtractNode}

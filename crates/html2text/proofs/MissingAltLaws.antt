@@ -1,8 +1,8 @@
 -- An absent alt reads as the one that is written in for it, and missing_alt does nothing else.
+use Rattle.std.specs.Prelude.{Option, None, Some, unwrap_or}
 use mathlib.Core.Path.{◌≡◌, refl, sym, ap, ap₂, ◌∙◌}
 use mathlib.Core.Bool.{Bool, true, false, ◌&&◌, ◌||◌, not, cond}
 use mathlib.Core.List.{List, [], ◌∷◌, ◌++◌, map, map-append}
-use mathlib.Core.Option.{Option, none, some, get_or}
 use Prim.Native.Nat.{ℕ, zero, suc, ◌+◌}
 use lib.ListN.{length}
 use Rattle.common.specs.Bytes.{Bytes, codes, same, is_empty}
@@ -294,12 +294,12 @@ module _ (o : ExtractOptions) (on other : Bool) where
 
     -- of an img or area, by whether an alt is there
     alt_same : (a : Option Bytes) → attribute n.attributes (codes "alt") ≡ a
-        → get_or a (missing_alt on)
-        ≡ get_or (attribute (cond (not (is_there a)) (written ∷ n.attributes) n.attributes) (codes "alt")) (missing_alt other)
+        → unwrap_or a (missing_alt on)
+        ≡ unwrap_or (attribute (cond (not (is_there a)) (written ∷ n.attributes) n.attributes) (codes "alt")) (missing_alt other)
     unfolding codes same
-    alt_same none e =
-        ap (λ (b : Option Bytes). get_or b (missing_alt other)) (sym (attribute_cons_here written n.attributes (codes "alt") refl))
-    alt_same (some value) e = ap (λ (b : Option Bytes). get_or b (missing_alt other)) (sym e)
+    alt_same None e =
+        ap (λ (b : Option Bytes). unwrap_or b (missing_alt other)) (sym (attribute_cons_here written n.attributes (codes "alt") refl))
+    alt_same (Some value) e = ap (λ (b : Option Bytes). unwrap_or b (missing_alt other)) (sym e)
 
     written_alike : AltAlike n (with_alt (missing_alt on) n).attributes
     written_alike = record {
@@ -313,7 +313,7 @@ module _ (o : ExtractOptions) (on other : Bool) where
 
 pub missing_alt_right : MissingAltRight
 missing_alt_right = record {
-  off = λ o n e. ap (λ (b : Bool). get_or (attribute n.attributes (codes "alt")) (missing_alt b)) e;
+  off = λ o n e. ap (λ (b : Bool). unwrap_or (attribute n.attributes (codes "alt")) (missing_alt b)) e;
   written = λ filtered p o on other.
       give_the_same o on other (λ n. (with_alt (missing_alt on) n).attributes) (written_alike o on other) filtered p;
   without = λ filtered p o on other off.

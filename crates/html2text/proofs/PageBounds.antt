@@ -1,9 +1,9 @@
 -- The walk of an accepted sheet's page has at most two events a row, each of a row of the sheet, and each adds at most six times the pool and
 -- a few bytes.
+use Rattle.std.specs.Prelude.{Option, None, Some, unwrap_or}
 use mathlib.Core.Path.{◌≡◌, refl}
 use mathlib.Core.Bool.{Bool, true, false, ◌&&◌, ◌||◌, not, cond}
 use mathlib.Core.List.{List, [], ◌∷◌, ◌++◌}
-use mathlib.Core.Option.{Option, none, some, get_or}
 use Prim.Native.Nat.{ℕ, zero, suc, ◌+◌, ◌*◌, ◌≤◌, ◌<◌}
 use native.Mathlib.Omega.{arith}
 use lib.ListN.{length, take, drop, length-append, length-take, length-drop}
@@ -61,9 +61,9 @@ module _ {p : ℕ} (o : ExtractOptions) (n : Node) (short : Short p n) where
   unfolding Fits codes
   alt_fits = go (attribute n.attributes (codes "alt")) (short.attributes (codes "alt"))
     where
-      go : (a : Option Bytes) → length (or_empty a) ≤ p → length (get_or a (missing_alt o.missing_alt)) ≤ 6 * p + 11
-      go (some value) h = omega arith
-      go none h = by_cond (λ (s : Bytes). length s ≤ 6 * p + 11) o.missing_alt (λ e. omega arith) (λ e. omega arith)
+      go : (a : Option Bytes) → length (or_empty a) ≤ p → length (unwrap_or a (missing_alt o.missing_alt)) ≤ 6 * p + 11
+      go (Some value) h = omega arith
+      go None h = by_cond (λ (s : Bytes). length s ≤ 6 * p + 11) o.missing_alt (λ e. omega arith) (λ e. omega arith)
 
   element_fits : (end : Bool) → Fits (added_by_element o n end)
   unfolding Fits added_by_element codes
@@ -99,7 +99,7 @@ module _ {s : Bytes} {l : Layout} (sized : Sized s l) where
   attribute_short name j (suc n) = go (same (name_at s l j) name) (attribute_short name (suc j) n)
     where
       go : (b : Bool) → length (attribute_or_empty (attributes_from s l (suc j) n) name) ≤ l.pool
-          → length (get_or {A = Bytes} (elim b [ true ↦ some (value_at s l j) | false ↦ attribute (attributes_from s l (suc j) n) name ]) []) ≤ l.pool
+          → length (unwrap_or (elim b [ true ↦ Some (value_at s l j) | false ↦ attribute (attributes_from s l (suc j) n) name ]) []) ≤ l.pool
       go true h = range_short (attribute_at s l j).value_at (attribute_at s l j).value_len
       go false h = h
 

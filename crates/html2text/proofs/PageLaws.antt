@@ -1,6 +1,7 @@
 -- The page of an accepted sheet: well-formed depths, a root among its rows, and parents that are elements.
+use Rattle.std.proofs.lemmas.Option.{none-some, same_Some}
+use Rattle.std.specs.Prelude.{Some}
 use mathlib.Core.Path.{◌≡◌, sym, ◌∙◌}
-use mathlib.Core.Option.{some, some-injective, none-ne-some}
 use Prim.Native.Nat.{ℕ, zero, suc, ◌<◌}
 use native.Mathlib.Omega.{arith}
 use lib.ListN.{length}
@@ -23,11 +24,11 @@ module _ {s : Bytes} {l : Layout} (accepted : Accepted s l) where
   unfolding node_at kind_of
   element_at i e = rw e
 
-  parent_element : (i j : ℕ) → j < length (depths s l) → parent_of (depths s l) j ≡ some i → (node_at s l i).kind ≡ element
-  parent_element i zero h e = absurd (none-ne-some i e)
+  parent_element : (i j : ℕ) → j < length (depths s l) → parent_of (depths s l) j ≡ Some i → (node_at s l i).kind ≡ element
+  parent_element i zero h e = absurd (none-some i e)
   parent_element i (suc j) h e =
       let q = (accepted.later j (omega (arith, rows))).parent in
-      element_at i (rw (some-injective q.0 i (sym q.1 ∙ e)) at q.2)
+      element_at i (rw (same_Some q.0 i (sym q.1 ∙ e)) at q.2)
 
   pub page_right : PageRight (page_of s l)
   page_right = record { column = well_formed accepted; root = omega (arith, rows, accepted.sized.root); parent = parent_element }

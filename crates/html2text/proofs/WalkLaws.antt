@@ -1,8 +1,8 @@
 -- The Rust's loop gives the entries and the passes of the recursion over the tree, and comes to its end within 2·N passes.
+use Rattle.std.specs.Prelude.{Option, None, Some}
 use mathlib.Core.Path.{◌≡◌, refl, sym, ap, ◌∙◌}
 use mathlib.Core.Bool.{Bool, true, false, ◌||◌, cond}
 use mathlib.Core.List.{List, [], ◌∷◌, ◌++◌}
-use mathlib.Core.Option.{Option, none, some}
 use Prim.Native.Nat.{ℕ, zero, suc, ◌+◌, ◌-◌, ◌*◌, ◌≤◌}
 use native.Mathlib.Nat.{zero-add, add-zero, add_assoc}
 use native.Mathlib.Numerals.{add-one}
@@ -75,12 +75,12 @@ module _ (p : Page) (hidden_at : ℕ → ℕ → Bool) (hidden : ℕ → Bool) (
   visited_grown false i d end s = sofar_same _ _ refl (sym (add-one s.passes))
 
   goes_pass : (b : Bool) (i d : ℕ) (end : Bool) → left_out_at p hidden_at o i d ≡ b
-      → Goes (at (some i) d end) (turn p hidden_at o i d (b || end)) (cond b [] (event_of i d end ∷ [])) 1
+      → Goes (at (Some i) d end) (turn p hidden_at o i d (b || end)) (cond b [] (event_of i d end ∷ [])) 1
   unfolding loop_from
   goes_pass b i d end l = record {
     goes = λ s k.
         let more : 1 + k ≡ suc k = omega arith in
-        ap (λ (n : ℕ). loop_at n (at (some i) d end) s) more
+        ap (λ (n : ℕ). loop_at n (at (Some i) d end) s) more
         ∙ ap (λ (c : Bool). loop_at k (turn p hidden_at o i d (c || end)) (visited c i d end s)) l
         ∙ ap (loop_at k (turn p hidden_at o i d (b || end))) (visited_grown b i d end s);
   }
@@ -94,7 +94,7 @@ module _ (p : Page) (hidden_at : ℕ → ℕ → Bool) (hidden : ℕ → Bool) (
   left_at : (b : Bool) (i d : ℕ) → Counted i d → left_out p.node hidden i ≡ b → left_out_at p hidden_at o i d ≡ b
   left_at b i d e l = ap (λ (h : Bool). is_comment (p.node i).kind || h) (hides i d e) ∙ l
 
-  counted_below : (i q d : ℕ) → parent_of p.depths i ≡ some q → Counted q d → Counted i (suc d)
+  counted_below : (i q d : ℕ) → parent_of p.depths i ≡ Some q → Counted q d → Counted i (suc d)
   counted_below i q d u e = omega (arith, (above_found p.depths (get_or p.depths i 0) i q u).1)
 
   abbrev row_events : Bool → ℕ → Forest ℕ → ℕ → List Event
@@ -108,35 +108,35 @@ module _ (p : Page) (hidden_at : ℕ → ℕ → Bool) (hidden : ℕ → Bool) (
 
   -- all of a forest at depth d, from its first row c to the end of its parent q
   abbrev ForestGoes : Forest ℕ → Option ℕ → ℕ → ℕ → Type 0
-  ForestGoes f c q d = Goes (at c (suc d) false) (at (some q) d true) (events p.node hidden (suc d) f) (visits p.node hidden f)
+  ForestGoes f c q d = Goes (at c (suc d) false) (at (Some q) d true) (events p.node hidden (suc d) f) (visits p.node hidden f)
 
   goes_row : (b : Bool) (children : Forest ℕ) (i d : ℕ) → Counted i d → left_out p.node hidden i ≡ b → Stands p.depths p.root children (first_child_of p.depths i) i
       → (has_trees children ≡ true → ForestGoes children (first_child_of p.depths i) i d)
-      → Goes (at (some i) d false) (onward p hidden_at o i d) (row_events b i children d) (row_visits b children)
+      → Goes (at (Some i) d false) (onward p hidden_at o i d) (row_events b i children d) (row_visits b children)
   unfolding events visits
   goes_row true children i d e l s below = goes_pass true i d false (left_at true i d e l)
   goes_row false empty i d e l s below = rw s at (goes_pass false i d false (left_at false i d e l))
   goes_row false (node j c r) i d e l s below =
       let m = left_at false i d e l in
       let v = visits p.node hidden (node j c r) in
-      let enter : Goes (at (some i) d false) (at (first_child_of p.depths i) (suc d) false) (event_at p.node hidden i true d false ∷ []) 1 =
+      let enter : Goes (at (Some i) d false) (at (first_child_of p.depths i) (suc d) false) (event_at p.node hidden i true d false ∷ []) 1 =
       rw s.0 (rw s.0 at (goes_pass false i d false m)) in
-      let leave : Goes (at (some i) d true) (onward p hidden_at o i d) (event_at p.node hidden i true d true ∷ []) 1 = rw s.0 at (goes_pass false i d true m) in
+      let leave : Goes (at (Some i) d true) (onward p hidden_at o i d) (event_at p.node hidden i true d true ∷ []) 1 = rw s.0 at (goes_pass false i d true m) in
       goes_count (omega arith) (goes_then enter (goes_then (below refl) leave))
 
   -- ---- a forest
 
-  onward_up : (i q d : ℕ) → eqb i p.root ≡ false → next_sibling_of p.depths i ≡ none → parent_of p.depths i ≡ some q → onward p hidden_at o i (suc d) ≡ at (some q) d true
+  onward_up : (i q d : ℕ) → eqb i p.root ≡ false → next_sibling_of p.depths i ≡ None → parent_of p.depths i ≡ Some q → onward p hidden_at o i (suc d) ≡ at (Some q) d true
   onward_up i q d r n u = let e : suc d - 1 ≡ d = omega arith in rw (r, n, u, e)
 
-  onward_beside : (i j d : ℕ) → eqb i p.root ≡ false → next_sibling_of p.depths i ≡ some j → onward p hidden_at o i d ≡ at (next_sibling_of p.depths i) d false
+  onward_beside : (i j d : ℕ) → eqb i p.root ≡ false → next_sibling_of p.depths i ≡ Some j → onward p hidden_at o i d ≡ at (next_sibling_of p.depths i) d false
   onward_beside i j d r n = rw (r, n)
 
   goes_on : (rest : Forest ℕ) (i q d : ℕ) → RowStands p.depths p.root i q → Stands p.depths p.root rest (next_sibling_of p.depths i) q
       → (has_trees rest ≡ true → ForestGoes rest (next_sibling_of p.depths i) q d)
-      → Goes (onward p hidden_at o i (suc d)) (at (some q) d true) (events p.node hidden (suc d) rest) (visits p.node hidden rest)
+      → Goes (onward p hidden_at o i (suc d)) (at (Some q) d true) (events p.node hidden (suc d) rest) (visits p.node hidden rest)
   unfolding events visits
-  goes_on empty i q d r s later = rw (onward_up i q d r.below s r.parent) (goes_none (at (some q) d true))
+  goes_on empty i q d r s later = rw (onward_up i q d r.below s r.parent) (goes_none (at (Some q) d true))
   goes_on (node j c l) i q d r s later = rw (onward_beside i j (suc d) r.below s.0) (later refl)
 
   goes_forest : (f : Forest ℕ) (c : Option ℕ) (q d : ℕ) → Counted q d → Stands p.depths p.root f c q → has_trees f ≡ true → ForestGoes f c q d
@@ -151,10 +151,10 @@ module _ (p : Page) (hidden_at : ℕ → ℕ → Bool) (hidden : ℕ → Bool) (
 
   -- ---- the root's tree
 
-  onward_root : onward p hidden_at o p.root 0 ≡ at none 0 true
+  onward_root : onward p hidden_at o p.root 0 ≡ at None 0 true
   onward_root = rw (eq-eqb p.root p.root refl)
 
-  goes_tree : Goes (at (some p.root) 0 false) (at none 0 true) (events p.node hidden 0 (tree_of p)) (visits p.node hidden (tree_of p))
+  goes_tree : Goes (at (Some p.root) 0 false) (at None 0 true) (events p.node hidden 0 (tree_of p)) (visits p.node hidden (tree_of p))
   unfolding events visits
   goes_tree =
       let i = p.root in
@@ -163,9 +163,9 @@ module _ (p : Page) (hidden_at : ℕ → ℕ → Bool) (hidden : ℕ → Bool) (
       let e : Counted i 0 = sym (zero-add (get_or p.depths i 0)) in
       goes_then
       (rw onward_root at (goes_row (left_out p.node hidden i) children i 0 e refl s (goes_forest children (first_child_of p.depths i) i 0 e s)))
-      (goes_none (at none 0 true))
+      (goes_none (at None 0 true))
 
-  stop : (k : ℕ) (s : Sofar) → loop_at k (at none 0 true) s ≡ s
+  stop : (k : ℕ) (s : Sofar) → loop_at k (at None 0 true) s ≡ s
   unfolding loop_from
   stop zero s = refl
   stop (suc k) s = refl
@@ -197,14 +197,14 @@ module _ (p : Page) (hidden_at : ℕ → ℕ → Bool) (hidden : ℕ → Bool) (
     most = omega (arith, visits_rows (tree_of p), tree_rows)
 
     over : (m : ℕ) → visits p.node hidden (tree_of p) ≤ m
-        → loop_at m (at (some p.root) 0 false) (record { nodes = []; passes = 0 })
+        → loop_at m (at (Some p.root) 0 false) (record { nodes = []; passes = 0 })
         ≡ record { nodes = collect_all o [] (events p.node hidden 0 (tree_of p)); passes = visits p.node hidden (tree_of p) }
     over m h =
         let n = visits p.node hidden (tree_of p) in
         let k = m - n in
         let fuel : n + k ≡ m = omega arith in
         let begin : Sofar = record { nodes = []; passes = 0 } in
-        ap (λ (x : ℕ). loop_at x (at (some p.root) 0 false) begin) (sym fuel)
+        ap (λ (x : ℕ). loop_at x (at (Some p.root) 0 false) begin) (sym fuel)
         ∙ goes_tree.goes begin k
         ∙ stop k (grown (events p.node hidden 0 (tree_of p)) n begin)
         ∙ sofar_same _ _ refl (zero-add n)

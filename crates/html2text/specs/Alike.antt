@@ -1,6 +1,6 @@
 -- Two pages that the walk cannot tell apart but for the numbers of their rows, and what is then the same of both. `old` gives of a row of
 -- the second its number in the first.
-use Rattle.std.specs.Prelude.{◌≡◌, Bool, true, false, List, map, ℕ, zero, suc, length}
+use Rattle.std.specs.Prelude.{◌≡◌, Bool, true, false, List, map, ℕ, zero, suc, length, Result, Ok, Err}
 use Rattle.common.specs.Bytes.{Bytes}
 use Rattle.options.specs.declared.ExtractOptions.{ExtractOptions}
 use Rattle.tree.specs.Forest.{Forest, empty, node}
@@ -13,8 +13,9 @@ use Rattle.html2text.specs.Pieces.{Piece}
 use Rattle.html2text.specs.Pieces as pieces
 use Rattle.html2text.specs.Walk.{left_out, tree_of}
 use Rattle.html2text.specs.Walk as walk
-use Rattle.html2text.specs.declared.Extraction.{Extraction}
-use Rattle.html2text.specs.declared.Extraction.TheVariants.{Text, Refused, ListLevels, OpenRows, WorkTooShort, OutTooShort}
+use Rattle.html2text.specs.declared.ExtractError.{ExtractError}
+use Rattle.html2text.specs.declared.ExtractError.TheVariants.{Refused, ListLevels, OpenRows, WorkTooShort, OutTooShort}
+use Rattle.html2text.specs.declared.Extracted.{Extracted}
 
 -- ---- with the numbers of the first page
 
@@ -39,18 +40,21 @@ module _ (old : ℕ → ℕ) where
   run_by (too_many_rows line) = too_many_rows (line_by line)
 
   -- the line of 21 and of 22 follows its row
-  abbrev pub extraction_by : Extraction → Extraction
-  extraction_by (Text visits len) = Text visits len
-  extraction_by (Refused v) = Refused v
-  extraction_by (ListLevels line) = ListLevels (line_by line)
-  extraction_by (OpenRows line) = OpenRows (line_by line)
-  extraction_by (WorkTooShort need) = WorkTooShort need
-  extraction_by (OutTooShort need) = OutTooShort need
+  abbrev pub error_by : ExtractError → ExtractError
+  error_by (Refused e) = Refused e
+  error_by (ListLevels line) = ListLevels (line_by line)
+  error_by (OpenRows line) = OpenRows (line_by line)
+  error_by (WorkTooShort need) = WorkTooShort need
+  error_by (OutTooShort need) = OutTooShort need
+
+  abbrev pub extraction_by : Result Extracted ExtractError → Result Extracted ExtractError
+  extraction_by (Ok x) = Ok x
+  extraction_by (Err e) = Err (error_by e)
 
 -- where no number changes nothing does
 pub record SameNumbers : Type 0 where
   pub pieces : (ps : List Piece) → map (piece_by (λ i. i)) ps ≡ ps
-  pub answer : (x : Extraction) → extraction_by (λ i. i) x ≡ x
+  pub answer : (x : Result Extracted ExtractError) → extraction_by (λ i. i) x ≡ x
 
 -- ---- trees
 

@@ -1,6 +1,5 @@
 -- `collect` of html2text.rs: one event of the walk, and the entries that it makes.
-use Rattle.std.specs.Prelude.{Bool, true, ◌&&◌, ◌||◌, not, cond, List, [], ◌∷◌, ◌++◌, ℕ, ◌+◌, ◌-◌, ltb}
-use Rattle.std.proofs.Math.Option.{get_or}
+use Rattle.std.specs.Prelude.{Bool, true, ◌&&◌, ◌||◌, not, cond, List, [], ◌∷◌, ◌++◌, ℕ, ◌+◌, ◌-◌, ltb, unwrap_or}
 use Rattle.common.specs.Bytes.{Bytes, codes, is_empty}
 use Rattle.options.specs.Options.{is_basic, is_minimal_html}
 use Rattle.options.specs.declared.ExtractOptions.{ExtractOptions}
@@ -114,7 +113,7 @@ missing_alt on = cond on (codes "[picture]") []
 
 -- an img's or area's alt
 abbrev pub alt_text : ExtractOptions → Node → Bytes
-alt_text o n = get_or (attribute n.attributes (codes "alt")) (missing_alt o.missing_alt)
+alt_text o n = unwrap_or (attribute n.attributes (codes "alt")) (missing_alt o.missing_alt)
 
 -- of an element
 unfoldable pub added_by_element : ExtractOptions → Node → Bool → Bytes

@@ -1,6 +1,5 @@
 -- The words of demand 3, and what it claims of two pages that differ in marks alone.
-use Rattle.std.specs.Prelude.{◌≡◌, Bool, true, false, ◌&&◌, ◌||◌, not, List, [], ℕ, suc, ◌+◌, ◌<◌, length, get_or}
-use Rattle.std.proofs.Math.Option.{some}
+use Rattle.std.specs.Prelude.{◌≡◌, Bool, true, false, ◌&&◌, ◌||◌, not, List, [], ℕ, suc, ◌+◌, ◌<◌, length, get_or, Some}
 use Rattle.common.specs.Bytes.{Bytes, is_empty}
 use Rattle.options.specs.declared.ExtractOptions.{ExtractOptions}
 use Rattle.sheet.specs.Column.{parent_of}
@@ -34,13 +33,13 @@ is_blank_text n = is_text n.kind && is_empty (struck n.value)
 
 -- row j is a later sibling of row i
 pub data LaterSibling (depths : List ℕ) : ℕ → ℕ → Type 0 where
-  next : {i j : ℕ} → next_sibling_of depths i ≡ some j → LaterSibling depths i j
-  after : {i j k : ℕ} → LaterSibling depths i j → next_sibling_of depths j ≡ some k → LaterSibling depths i k
+  next : {i j : ℕ} → next_sibling_of depths i ≡ Some j → LaterSibling depths i j
+  after : {i j k : ℕ} → LaterSibling depths i j → next_sibling_of depths j ≡ Some k → LaterSibling depths i k
 
 -- "every cell's parent is a tr and every later sibling of a cell is a cell, a comment, blank text or a marked row"
 pub record CellsRight (p : Page) : Type 0 where
   pub parent : (i : ℕ) → i < length p.depths → is_cell_node (p.node i) ≡ true
-      → (q : ℕ) × (parent_of p.depths i ≡ some q) × (is (tag (p.node q)) "tr" ≡ true)
+      → (q : ℕ) × (parent_of p.depths i ≡ Some q) × (is (tag (p.node q)) "tr" ≡ true)
   pub later : (i j : ℕ) → i < length p.depths → is_cell_node (p.node i) ≡ true → LaterSibling p.depths i j
       → (is_cell_node (p.node j) || (is_comment (p.node j).kind || (is_blank_text (p.node j) || p.marked j))) ≡ true
 

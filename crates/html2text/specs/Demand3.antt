@@ -1,5 +1,5 @@
 -- Demand 3, of byte strings.
-use Rattle.std.specs.Prelude.{◌≡◌, Bool, true, false, List, ◌⊎◌, ℕ, ◌<◌, length, take}
+use Rattle.std.specs.Prelude.{◌≡◌, Bool, true, false, List, ◌⊎◌, ℕ, ◌<◌, length, take, Ok}
 use Rattle.common.specs.Bytes.{Bytes}
 use Rattle.options.specs.declared.ExtractOptions.{ExtractOptions}
 use Rattle.options.specs.declared.Formatting.TheVariants.{Off}
@@ -12,7 +12,6 @@ use Rattle.tree.specs.Node.{Node}
 use Rattle.tree.specs.Page.{page_of}
 use Rattle.html2text.specs.Demand.{BlanksRight, CellsRight, TextsArePieces}
 use Rattle.html2text.specs.Extract.{filtered_by, extraction_of, out_after_of}
-use Rattle.html2text.specs.declared.Extraction.TheVariants.{Text}
 
 -- ---- two sheets that differ in marks
 
@@ -31,7 +30,7 @@ module _ (filters : (ℕ → Node) → List ℕ → ℕ → ExtractOptions → �
   -- "Accepted is an extraction that gives a text: out's bytes up to the returned length."
   pub record Gives (s : Bytes) (o : ExtractOptions) (out work t : Bytes) : Type 0 where
     pub visits : ℕ
-    pub answer : extraction_of filters s o (length out) (length work) ≡ Text visits (length t)
+    pub answer : extraction_of filters s o (length out) (length work) ≡ Ok (record { visits = visits; len = length t })
     pub text : take (length t) (out_after_of filters s o out work) ≡ t
 
   -- t₁ is a text of s₁: its blanks, and what it and any text of a second sheet, with further marks, say

@@ -1,6 +1,6 @@
 -- Document 02, CR 3: the texts that an extraction escapes, each as it stands in the sheet, and how many bytes they have. One that is escaped
 -- twice counts once. The word for a missing alt counts as an alt does.
-use Rattle.std.specs.Prelude.{Bool, ◌&&◌, ◌||◌, not, cond, List, [], ◌∷◌, ℕ, ◌+◌, length}
+use Rattle.std.specs.Prelude.{Bool, ◌&&◌, ◌||◌, not, cond, List, [], ◌∷◌, ℕ, ◌+◌, length, Result, Ok, Err}
 use Rattle.common.specs.Bytes.{Bytes, codes}
 use Rattle.options.specs.Options.{is_minimal_html}
 use Rattle.options.specs.declared.ExtractOptions.{ExtractOptions}
@@ -15,8 +15,8 @@ use Rattle.html2text.specs.Extract.{hidden, filtered_by}
 use Rattle.html2text.specs.Fused.{Fused, fed}
 use Rattle.html2text.specs.Walk.{events, tree_of}
 use Rattle.html2text.specs.declared.ExtractNode.{ExtractNode}
-use Rattle.html2text.specs.declared.Extraction.{Extraction}
-use Rattle.html2text.specs.declared.Extraction.TheVariants.{Text, Refused, ListLevels, OpenRows, WorkTooShort, OutTooShort}
+use Rattle.html2text.specs.declared.ExtractError.{ExtractError}
+use Rattle.html2text.specs.declared.Extracted.{Extracted}
 
 -- of an element, `escape` being whether `serialize` escapes the text of the entry: `collect` escapes a link's address
 unfoldable pub escaped_of_element : ExtractOptions → Bool → Node → Bool → Bytes
@@ -63,13 +63,9 @@ unfoldable pub escaped_length : (ℕ → Bool) → Page → ExtractOptions → �
 escaped_length filtered p o = bytes_escaped o [] (events p.node (hidden filtered p o) 0 (tree_of p))
 
 -- what the writing of an accepted extraction reads; a refusal reads nothing
-abbrev pub read_in : Extraction → ℕ → ℕ
-read_in (Text visits len) n = n
-read_in (Refused v) n = 0
-read_in (ListLevels line) n = 0
-read_in (OpenRows line) n = 0
-read_in (WorkTooShort need) n = 0
-read_in (OutTooShort need) n = 0
+abbrev pub read_in : Result Extracted ExtractError → ℕ → ℕ
+read_in (Ok x) n = n
+read_in (Err e) n = 0
 
 -- of a byte string; `filters` as in `extraction_of`
 module _ (filters : (ℕ → Node) → List ℕ → ℕ → ExtractOptions → ℕ → Bool) where

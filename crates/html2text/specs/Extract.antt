@@ -1,6 +1,6 @@
 -- An extraction: `serialize` over all entries with 21 and 22, the needs of 31 and 32, the answer, and what the lent buffers hold after it
 -- (document 01, "Who can cause which number").
-use Rattle.std.specs.Prelude.{Bool, ◌&&◌, ◌||◌, not, cond, List, [], ◌∷◌, ℕ, zero, suc, ◌+◌, leb, ltb, length}
+use Rattle.std.specs.Prelude.{Bool, ◌&&◌, ◌||◌, not, cond, List, [], ◌∷◌, ℕ, zero, suc, ◌+◌, leb, ltb, length, Result, Ok, Err}
 use Rattle.common.specs.Answer.{Answer, refused, accepted}
 use Rattle.common.specs.Bytes.{Bytes, codes, padded}
 use Rattle.common.specs.Refusals.{too_many_list_levels, too_many_open_rows, work_too_short, out_too_short}
@@ -19,8 +19,9 @@ use Rattle.html2text.specs.Collect.{Entry, attr, collect_all}
 use Rattle.html2text.specs.Serialize.{State, start, step, changes_level}
 use Rattle.html2text.specs.Walk.{events, visits, tree_of}
 use Rattle.html2text.specs.declared.ExtractNode.{ExtractNode}
-use Rattle.html2text.specs.declared.Extraction.{Extraction}
-use Rattle.html2text.specs.declared.Extraction.TheVariants.{Text, Refused, ListLevels, OpenRows, WorkTooShort, OutTooShort}
+use Rattle.html2text.specs.declared.ExtractError.{ExtractError}
+use Rattle.html2text.specs.declared.ExtractError.TheVariants.{Refused, ListLevels, OpenRows, WorkTooShort, OutTooShort}
+use Rattle.html2text.specs.declared.Extracted.{Extracted}
 
 -- ---- `serialize`, until an entry is refused
 
@@ -93,12 +94,12 @@ work_need_of p o nodes = greater (longest_text nodes) (cond o.main_content (long
 -- ---- "The caller's 31 is tested after 21 and 22, 32 after 31."
 
 module _ (need passes : ℕ) where
-  abbrev pub concluded : Run → ℕ → ℕ → Extraction
+  abbrev pub concluded : Run → ℕ → ℕ → Result Extracted ExtractError
   concluded (going S) out work =
-      cond (ltb work need) (WorkTooShort need)
-      (cond (ltb out S.out.peak) (OutTooShort S.out.peak) (Text passes (length (finished S))))
-  concluded (too_many_levels line) out work = ListLevels line
-  concluded (too_many_rows line) out work = OpenRows line
+      cond (ltb work need) (Err (WorkTooShort need))
+      (cond (ltb out S.out.peak) (Err (OutTooShort S.out.peak)) (Ok (record { visits = passes; len = length (finished S) })))
+  concluded (too_many_levels line) out work = Err (ListLevels line)
+  concluded (too_many_rows line) out work = Err (OpenRows line)
 
   -- "After a refusal out is unchanged. .. After a text: .. out holds the text and zeros behind it."
   abbrev pub out_then : Run → Bytes → Bytes → Bytes
@@ -128,7 +129,7 @@ module _ (filtered : ℕ → Bool) (p : Page) (o : ExtractOptions) where
   abbrev pub work_need : ℕ
   work_need = work_need_of p o entries
 
-  unfoldable pub extraction : ℕ → ℕ → Extraction
+  unfoldable pub extraction : ℕ → ℕ → Result Extracted ExtractError
   extraction out work = concluded work_need passes (serialized o entries) out work
 
   unfoldable pub out_after : Bytes → Bytes → Bytes
@@ -138,13 +139,16 @@ module _ (filtered : ℕ → Bool) (p : Page) (o : ExtractOptions) where
   work_after work = work_then work_need passes (serialized o entries) work
 
 -- the numbers of each case: number, second number, visits, length
-abbrev pub numbers : Extraction → Answer
-numbers (Text passes len) = accepted 0 passes len
-numbers (Refused v) = sheet_verdict.numbers v
-numbers (ListLevels line) = refused too_many_list_levels line
-numbers (OpenRows line) = refused too_many_open_rows line
-numbers (WorkTooShort need) = refused work_too_short need
-numbers (OutTooShort need) = refused out_too_short need
+abbrev pub refusal : ExtractError → Answer
+refusal (Refused e) = sheet_verdict.refusal e
+refusal (ListLevels line) = refused too_many_list_levels line
+refusal (OpenRows line) = refused too_many_open_rows line
+refusal (WorkTooShort need) = refused work_too_short need
+refusal (OutTooShort need) = refused out_too_short need
+
+abbrev pub numbers : Result Extracted ExtractError → Answer
+numbers (Ok x) = accepted 0 x.visits x.len
+numbers (Err e) = refusal e
 
 -- ---- of a byte string: the sheet's refusals come first, and change neither buffer
 -- `filters` says which rows `is_main_content` leaves out, by the rows, their depths, the root and the options: it is given no marks
@@ -153,8 +157,8 @@ module _ (filters : (ℕ → Node) → List ℕ → ℕ → ExtractOptions → �
   abbrev pub filtered_by : Page → ExtractOptions → ℕ → Bool
   filtered_by p o = filters p.node p.depths p.root o
 
-  unfoldable pub extraction_of : Bytes → ExtractOptions → ℕ → ℕ → Extraction
-  extraction_of s o out work = on_sheet (λ l. extraction (filtered_by (page_of s l) o) (page_of s l) o out work) Refused (verdict s)
+  unfoldable pub extraction_of : Bytes → ExtractOptions → ℕ → ℕ → Result Extracted ExtractError
+  extraction_of s o out work = on_sheet (λ l. extraction (filtered_by (page_of s l) o) (page_of s l) o out work) (λ e. Err (Refused e)) (verdict s)
 
   unfoldable pub out_after_of : Bytes → ExtractOptions → Bytes → Bytes → Bytes
   out_after_of s o out work = on_sheet (λ l. out_after (filtered_by (page_of s l) o) (page_of s l) o out work) (λ v. out) (verdict s)

@@ -1,11 +1,10 @@
 -- What the definitions promise for every page, entry and event; `theorems` (src/theorems.rt) has them as its contract.
-use Rattle.std.specs.Prelude.{◌≡◌, Bool, true, false, List, ℕ, ◌≤◌, ◌<◌, length}
+use Rattle.std.specs.Prelude.{◌≡◌, Bool, true, false, List, ℕ, ◌≤◌, ◌<◌, length, Ok}
 use Rattle.common.specs.Bytes.{Bytes}
 use Rattle.options.specs.declared.ExtractOptions.{ExtractOptions}
 use Rattle.options.specs.declared.Formatting.{Formatting}
 use Rattle.sheet.specs.Verdict.{verdict}
 use Rattle.sheet.specs.declared.line.Layout.{Layout}
-use Rattle.sheet.specs.declared.verdict.Verdict.TheVariants.{Sheet}
 use Rattle.tree.specs.Forest.{Forest}
 use Rattle.tree.specs.Node.{Node}
 use Rattle.tree.specs.Page.{Page, page_of, SamePage}
@@ -22,7 +21,7 @@ use Rattle.html2text.specs.declared.ExtractNode.{ExtractNode}
 
 -- the walk of `extract_plain_text`
 pub record WalkRight : Type 0 where
-  pub page : (s : Bytes) (l : Layout) → verdict s ≡ Sheet l → PageRight (page_of s l)
+  pub page : (s : Bytes) (l : Layout) → verdict s ≡ Ok l → PageRight (page_of s l)
   pub tree : (p : Page) (hidden_at : ℕ → ℕ → Bool) (hidden : ℕ → Bool) (o : ExtractOptions) → HidesRows p hidden_at hidden → PageRight p → WalkOfTree p hidden_at hidden o
   pub level : (p : Page) (hidden : ℕ → Bool) (o : ExtractOptions) → LevelMet p hidden o
 
@@ -32,7 +31,7 @@ pub record PassesRight : Type 0 where
   pub pieces : (f : Formatting) (bullets : Bool) → ShownInPieces f bullets
   pub fed : (o : ExtractOptions) (e : Event) (F : Fused) → FedInTwo o e F
   pub levels : (f : Formatting) (bullets : Bool) (n : ExtractNode) (text : Bytes) (S : State) → StepLevels f bullets n text S
-  pub events : (s : Bytes) (l : Layout) → verdict s ≡ Sheet l → (hidden : ℕ → Bool) (o : ExtractOptions) → EventsBounded s l hidden o
+  pub events : (s : Bytes) (l : Layout) → verdict s ≡ Ok l → (hidden : ℕ → Bool) (o : ExtractOptions) → EventsBounded s l hidden o
   pub run : (o : ExtractOptions) (es : List Event) → length es ≤ most_events → EachAdds o es → RunBounded o es
 
 -- trees and pages that are alike but for row numbers
@@ -47,7 +46,7 @@ pub record AlikeRight : Type 0 where
       → SamePage p₁ p₂ → p₁.root < length p₁.depths → (o.main_content ≡ true → (i : ℕ) → i < length p₁.depths → filtered₁ i ≡ filtered₂ i)
       → PagesAlike (λ i. i) filtered₁ p₁ filtered₂ p₂ o
   pub sheets : (filters : (ℕ → Node) → List ℕ → ℕ → ExtractOptions → ℕ → Bool) (s₁ s₂ : Bytes) (l₁ l₂ : Layout) (o : ExtractOptions)
-      → verdict s₁ ≡ Sheet l₁ → verdict s₂ ≡ Sheet l₂ → SamePage (page_of s₁ l₁) (page_of s₂ l₂) → o.main_content ≡ false
+      → verdict s₁ ≡ Ok l₁ → verdict s₂ ≡ Ok l₂ → SamePage (page_of s₁ l₁) (page_of s₂ l₂) → o.main_content ≡ false
       → SameAnswers filters s₁ s₂ o
 
 -- demand 3, whatever rows main_content leaves out

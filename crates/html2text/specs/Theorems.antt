@@ -1,6 +1,5 @@
 -- What is to be shown of the definitions for every page, as types.
-use Rattle.std.specs.Prelude.{◌≡◌, Bool, true, false, List, [], ◌∷◌, ◌++◌, ℕ, ◌+◌, ◌*◌, ◌≤◌, ◌<◌, length, get_or}
-use Rattle.std.proofs.Math.Option.{some}
+use Rattle.std.specs.Prelude.{◌≡◌, Bool, true, false, List, [], ◌∷◌, ◌++◌, ℕ, ◌+◌, ◌*◌, ◌≤◌, ◌<◌, length, get_or, Some}
 use Rattle.options.specs.Options.{is_off}
 use Rattle.options.specs.declared.ExtractOptions.{ExtractOptions}
 use Rattle.sheet.specs.Column.{parent_of}
@@ -18,7 +17,7 @@ pub record PageRight (p : Page) : Type 0 where
   pub column : WellFormed p.depths
   pub root : p.root < length p.depths
   -- 14: "a parent is not an element"
-  pub parent : (i j : ℕ) → j < length p.depths → parent_of p.depths j ≡ some i → (p.node i).kind ≡ element
+  pub parent : (i j : ℕ) → j < length p.depths → parent_of p.depths j ≡ Some i → (p.node i).kind ≡ element
 
 -- what is hidden by a row and the depth that the loop has counted is what is hidden by the row: that depth is the row's less the root's
 abbrev pub HidesRows : Page → (ℕ → ℕ → Bool) → (ℕ → Bool) → Type 0
@@ -28,7 +27,7 @@ HidesRows p hidden_at hidden = (i d : ℕ) → get_or p.depths i 0 ≡ d + get_o
 pub record WalkOfTree (p : Page) (hidden_at : ℕ → ℕ → Bool) (hidden : ℕ → Bool) (o : ExtractOptions) : Type 0 where
   pub same : loop p hidden_at o ≡ record { nodes = collect_all o [] (events p.node hidden 0 (tree_of p)); passes = visits p.node hidden (tree_of p) }
   -- it has ended there: more passes change nothing
-  pub ends : (k : ℕ) → loop_from p hidden_at o (2 * length p.depths + k) (some p.root) 0 false (record { nodes = []; passes = 0 }) ≡ loop p hidden_at o
+  pub ends : (k : ℕ) → loop_from p hidden_at o (2 * length p.depths + k) (Some p.root) 0 false (record { nodes = []; passes = 0 }) ≡ loop p hidden_at o
   -- "At most 2·N."
   pub most : visits p.node hidden (tree_of p) ≤ 2 * length p.depths
 

@@ -1,6 +1,5 @@
 -- The walk of `extract_plain_text`, from the point where root and blacklist are known: as the Rust's loop, and as a recursion over the tree.
-use Rattle.std.specs.Prelude.{Bool, true, false, ◌||◌, cond, List, [], ◌∷◌, ◌++◌, ℕ, zero, suc, ◌+◌, ◌-◌, ◌*◌, eqb, length}
-use Rattle.std.proofs.Math.Option.{Option, none, some}
+use Rattle.std.specs.Prelude.{Bool, true, false, ◌||◌, cond, List, [], ◌∷◌, ◌++◌, ℕ, zero, suc, ◌+◌, ◌-◌, ◌*◌, eqb, length, Option, None, Some}
 use Rattle.options.specs.declared.ExtractOptions.{ExtractOptions}
 use Rattle.sheet.specs.Column.{parent_of}
 use Rattle.tree.specs.Forest.{Forest, empty, node, has_trees}
@@ -16,8 +15,8 @@ is_comment text = false
 is_comment comment = true
 
 abbrev pub is_some : {A : Type 0} → Option A → Bool
-is_some none = false
-is_some (some a) = true
+is_some None = false
+is_some (Some a) = true
 
 -- `hidden`: the rows that are marked, or that main_content and `is_main_content` leave out
 module _ (node_of : ℕ → Node) (hidden : ℕ → Bool) where
@@ -76,17 +75,17 @@ module _ (p : Page) (hidden : ℕ → ℕ → Bool) (o : ExtractOptions) where
 
   -- `else if let Some(next) = node.next_sibling()`, and its `else`
   abbrev pub beside_or_up : ℕ → ℕ → Option ℕ → Cursor
-  beside_or_up i d (some j) = record { current = some j; depth = d; end = false }
-  beside_or_up i d none = record { current = parent_of p.depths i; depth = d - 1; end = true }
+  beside_or_up i d (Some j) = record { current = Some j; depth = d; end = false }
+  beside_or_up i d None = record { current = parent_of p.depths i; depth = d - 1; end = true }
 
   -- `else if node == root`
   abbrev pub onward : ℕ → ℕ → Cursor
-  onward i d = cond (eqb i p.root) (record { current = none; depth = d; end = true }) (beside_or_up i d (next_sibling_of p.depths i))
+  onward i d = cond (eqb i p.root) (record { current = None; depth = d; end = true }) (beside_or_up i d (next_sibling_of p.depths i))
 
   -- `if !end && let Some(child) = node.first_child()`
   abbrev pub down : ℕ → ℕ → Option ℕ → Cursor
-  down i d (some j) = record { current = some j; depth = suc d; end = false }
-  down i d none = onward i d
+  down i d (Some j) = record { current = Some j; depth = suc d; end = false }
+  down i d None = onward i d
 
   -- the second half of the body; a row that is left out has set `end`
   abbrev pub turn : ℕ → ℕ → Bool → Cursor
@@ -96,11 +95,11 @@ module _ (p : Page) (hidden : ℕ → ℕ → Bool) (o : ExtractOptions) where
   -- `while let Some(node) = current`, at most k passes
   unfoldable pub loop_from : ℕ → Option ℕ → ℕ → Bool → Sofar → Sofar
   loop_from zero c d end so = so
-  loop_from (suc k) none d end so = so
-  loop_from (suc k) (some i) d end so =
+  loop_from (suc k) None d end so = so
+  loop_from (suc k) (Some i) d end so =
       let t = turn i d (left_out_at i d || end) in
       loop_from k t.current t.depth t.end (visit i d end so)
 
   -- "At most 2·N" passes
   abbrev pub loop : Sofar
-  loop = loop_from (2 * length p.depths) (some p.root) 0 false (record { nodes = []; passes = 0 })
+  loop = loop_from (2 * length p.depths) (Some p.root) 0 false (record { nodes = []; passes = 0 })

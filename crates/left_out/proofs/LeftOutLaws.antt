@@ -1,8 +1,8 @@
 -- A row is left out by what is noted of it and by the filters; without them, what is noted says it of every row.
+use Rattle.std.specs.Prelude.{Option, None, Some}
 use mathlib.Core.Path.{◌≡◌, refl, sym, ap, ◌∙◌}
 use mathlib.Core.Bool.{Bool, true, false, not, ◌&&◌, ◌||◌, or_assoc, or-false}
 use mathlib.Core.List.{List}
-use mathlib.Core.Option.{Option, none, some}
 use Prim.Native.Nat.{ℕ, zero, suc, ◌-◌, ◌≤◌, ◌<◌}
 use native.Mathlib.Omega.{arith}
 use lib.ListN.{length, get_or, take}
@@ -38,10 +38,10 @@ module _ (node_of : ℕ → Node) (column : List ℕ) where
   body_near (suc above) i = by_test (is_body (node_of i)) (λ e. rw (e, body_from) (omega arith, omega arith)) (λ e. rw (e, body_from) (go (λ j. body_near above j) (parent_of column i) refl))
     where
       go : ((j : ℕ) → (body_from node_of column above j ≤ j) × (get_or column (body_from node_of column above j) 0 ≤ get_or column j 0)) → (p : Option ℕ) → parent_of column i ≡ p
-          → (elim p as (λ _. ℕ) [ none ↦ i | some parent ↦ body_from node_of column above parent ] ≤ i)
-          × (get_or column (elim p as (λ _. ℕ) [ none ↦ i | some parent ↦ body_from node_of column above parent ]) 0 ≤ get_or column i 0)
-      go near none e = (omega arith, omega arith)
-      go near (some parent) e =
+          → (elim p as (λ _. ℕ) [ None ↦ i | Some parent ↦ body_from node_of column above parent ] ≤ i)
+          × (get_or column (elim p as (λ _. ℕ) [ None ↦ i | Some parent ↦ body_from node_of column above parent ]) 0 ≤ get_or column i 0)
+      go near None e = (omega arith, omega arith)
+      go near (Some parent) e =
           let up = above_found column (get_or column i 0) i parent e in
           let more = near parent in
           (omega arith, omega arith)

@@ -1,8 +1,8 @@
 -- The last row at each depth, entered row by row: the rows that the next row stands in are at hand.
+use Rattle.std.specs.Prelude.{Some}
 use mathlib.Core.Path.{◌≡◌, refl, sym, ap, ◌∙◌}
 use mathlib.Core.Bool.{Bool}
 use mathlib.Core.List.{List}
-use mathlib.Core.Option.{some}
 use Prim.Native.Nat.{ℕ, suc, ◌+◌, ◌≤◌, ◌<◌}
 use native.Mathlib.Numerals.{add-one}
 use native.Mathlib.Omega.{arith}
@@ -31,17 +31,17 @@ module _ (column : List ℕ) where
     entered_same = rw stored (length-set before (get_or column k 0) k)
 
     -- up to row k's own depth
-    entered : (d : ℕ) → d ≤ get_or column k 0 → last_above column (suc d) (suc k) ≡ some (get_or after d 0)
+    entered : (d : ℕ) → d ≤ get_or column k 0 → last_above column (suc d) (suc k) ≡ Some (get_or after d 0)
     entered d l =
         above_or_not (get_or column k 0) d
         (λ m.
         above_suc_more column (suc d) k (get_or column k 0) refl (omega arith)
         ∙ g.above.row d m
-        ∙ ap some (sym (rw stored (get_or-set_other before (get_or column k 0) d k 0 (omega arith)))))
+        ∙ ap Some (sym (rw stored (get_or-set_other before (get_or column k 0) d k 0 (omega arith)))))
         (λ m.
         let e : d ≡ get_or column k 0 = omega arith in
         above_suc_hit column (suc d) k (get_or column k 0) refl (omega arith)
-        ∙ ap some (sym (rw (stored, e) (get_or-set_same before (get_or column k 0) k 0 (g.fits.place k h)))))
+        ∙ ap Some (sym (rw (stored, e) (get_or-set_same before (get_or column k 0) k 0 (g.fits.place k h)))))
 
     -- row n stands in rows up to row k
     entered_at : (n x : ℕ) → get_or column n 0 ≡ x → x ≤ suc (get_or column k 0) → ((d : ℕ) → d < x → last_above column (suc d) n ≡ last_above column (suc d) (suc k)) → Entered start after n

@@ -1,5 +1,5 @@
 -- Calls with an option line: 33 comes before the sheet, and changes no buffer.
-use Rattle.std.specs.Prelude.{Bool, not, ℕ, eqb}
+use Rattle.std.specs.Prelude.{Bool, not, ℕ, eqb, Option, Some, None}
 use Rattle.common.specs.Answer.{Answer, refused}
 use Rattle.common.specs.Bytes.{Bytes}
 use Rattle.common.specs.Refusals.{wrong_options}
@@ -8,13 +8,11 @@ use Rattle.marking.specs.Answers.{marked_of, sheet_after}
 use Rattle.marking.specs.Answers as marking
 use Rattle.options.specs.Line.{line_of}
 use Rattle.options.specs.declared.ExtractOptions.{ExtractOptions}
-use Rattle.options.specs.declared.line.OptionLine.{OptionLine}
-use Rattle.options.specs.declared.line.OptionLine.TheVariants.{Options, Wrong}
 use Rattle.reader.specs.Extraction.{extraction_of, out_after_of, work_after_of}
 
-abbrev pub on_line : {A : Type 0} → (ExtractOptions → A) → A → OptionLine → A
-on_line f wrong (Options o) = f o
-on_line f wrong Wrong = wrong
+abbrev pub on_line : {A : Type 0} → (ExtractOptions → A) → A → Option ExtractOptions → A
+on_line f wrong (Some o) = f o
+on_line f wrong None = wrong
 
 abbrev pub extract_numbers : Bytes → Bytes → ℕ → ℕ → Answer
 extract_numbers s line out work = on_line (λ o. extract.numbers (extraction_of s o out work)) (refused wrong_options 0) (line_of line)

@@ -20,12 +20,9 @@ ghost use Rattle.levzhada.specs.Answers.{extract_numbers, extract_out, extract_w
 
 use common::Answer;
 use links::Rule;
-use numbers::values::{LinkMeasure, Range, link_measure_of, range_of};
-use numbers::{
-    of_extraction, of_length, of_marked, of_matched, of_relative, of_unescaped, of_verdict,
-    of_visible_text, of_written,
-};
-use options::line::{OptionLine, read_line};
+use numbers::ToAnswer;
+use numbers::values::{LinkMeasure, Range, link_measure_of};
+use options::line::read_line;
 use reader::{
     attribute_of, check, collapse, escape, extract, first_child_of, mark, matches, measure_of,
     next_sibling_of, parent_of, text_length_of, unescape, visible_text,
@@ -41,7 +38,7 @@ fn wrong_options() -> Answer
 pub fn levzhada_check(sheet: &[u8]) -> Answer
     ensures { result ≡ numbers (verdict sheet.now) }
 {
-    of_verdict(check(sheet))
+    check(sheet).to_answer()
 }
 
 // options: the option line, eleven digits and LF; what follows it is not looked at.
@@ -50,10 +47,10 @@ pub fn levzhada_extract(sheet: &[u8], options: &[u8], out: &mut [u8], work: &mut
     ensures text { out.new ≡ extract_out sheet.now options.now out.old work.old }
     ensures cleared { work.new ≡ extract_work sheet.now options.now work.old }
 {
-    let OptionLine::Options(o) = read_line(options) else {
+    let Some(o) = read_line(options) else {
         return wrong_options();
     };
-    of_extraction(extract(sheet, o, out, work))
+    extract(sheet, o, out, work).to_answer()
 }
 
 // noscript: 0 is off, any other number on.
@@ -61,40 +58,40 @@ pub fn levzhada_mark(sheet: &mut [u8], options: &[u8], noscript: usize) -> Answe
     ensures answer { result ≡ mark_numbers sheet.old options.now noscript }
     ensures sheet { sheet.new ≡ mark_sheet sheet.old options.now noscript }
 {
-    let OptionLine::Options(o) = read_line(options) else {
+    let Some(o) = read_line(options) else {
         return wrong_options();
     };
-    of_marked(mark(sheet, o, noscript != 0))
+    mark(sheet, o, noscript != 0).to_answer()
 }
 
 pub fn levzhada_parent(sheet: &[u8], row: usize) -> Answer
     ensures { result ≡ relative_numbers parent_of sheet.now row }
 {
-    of_relative(parent_of(sheet, row))
+    parent_of(sheet, row).to_answer()
 }
 
 pub fn levzhada_first_child(sheet: &[u8], row: usize) -> Answer
     ensures { result ≡ relative_numbers first_child_of sheet.now row }
 {
-    of_relative(first_child_of(sheet, row))
+    first_child_of(sheet, row).to_answer()
 }
 
 pub fn levzhada_next_sibling(sheet: &[u8], row: usize) -> Answer
     ensures { result ≡ relative_numbers next_sibling_of sheet.now row }
 {
-    of_relative(next_sibling_of(sheet, row))
+    next_sibling_of(sheet, row).to_answer()
 }
 
 pub fn levzhada_attribute(sheet: &[u8], row: usize, name: &[u8]) -> Range
     ensures { result ≡ range_of (attribute_of sheet.now row name.now) }
 {
-    range_of(attribute_of(sheet, row, name))
+    Range::from(attribute_of(sheet, row, name))
 }
 
 pub fn levzhada_text_length(sheet: &[u8], row: usize) -> Answer
     ensures { result ≡ length_numbers sheet.now row }
 {
-    of_length(text_length_of(sheet, row))
+    text_length_of(sheet, row).to_answer()
 }
 
 pub fn levzhada_measure(sheet: &[u8], row: usize, ratio: f64, limit: usize) -> LinkMeasure
@@ -107,33 +104,33 @@ pub fn levzhada_measure(sheet: &[u8], row: usize, ratio: f64, limit: usize) -> L
 pub fn levzhada_matches(pattern: usize, text: &[u8]) -> Answer
     ensures { result ≡ answer_of pattern text.now }
 {
-    of_matched(matches(pattern, text))
+    matches(pattern, text).to_answer()
 }
 
 pub fn levzhada_collapse(text: &[u8], out: &mut [u8]) -> Answer
     ensures answer { result ≡ written_in (texts.collapse text.now) (length out.old) }
     ensures buffer { out.new ≡ out_after (texts.collapse text.now) out.old }
 {
-    of_written(collapse(text, out))
+    collapse(text, out).to_answer()
 }
 
 pub fn levzhada_escape(text: &[u8], out: &mut [u8]) -> Answer
     ensures answer { result ≡ written_in (texts.escape text.now) (length out.old) }
     ensures buffer { out.new ≡ out_after (texts.escape text.now) out.old }
 {
-    of_written(escape(text, out))
+    escape(text, out).to_answer()
 }
 
 pub fn levzhada_unescape(text: &[u8], out: &mut [u8]) -> Answer
     ensures answer { result ≡ unescapes.numbers (unescapes.unescaped_in text.now (length out.old)) }
     ensures buffer { out.new ≡ unescapes.unescaped_out text.now out.old }
 {
-    of_unescaped(unescape(text, out))
+    unescape(text, out).to_answer()
 }
 
 pub fn levzhada_visible_text(sheet: &[u8], row: usize, out: &mut [u8]) -> Answer
     ensures answer { result ≡ visible_texts.numbers (visible_texts.visible_text_in sheet.now row (length out.old)) }
     ensures buffer { out.new ≡ visible_texts.visible_text_out sheet.now row out.old }
 {
-    of_visible_text(visible_text(sheet, row, out))
+    visible_text(sheet, row, out).to_answer()
 }

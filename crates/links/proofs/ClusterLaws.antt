@@ -1,17 +1,17 @@
 -- The measure of a row by the counts of a pass that may stop early; `link_cluster` by kind; the answer to a byte string.
-use Rattle.std.proofs.Common.{◌≡◌, ℕ, ◌*◌, ◌<◌, ◌≤◌, Bool, true, false, ◌&&◌, eqb, ltb, List, [], sym, refl, ap, ◌∙◌, arith, lt-ltb, eq-eqb, ne_eqb}
-use Rattle.common.specs.Answer.{Answer, refused}
+use Rattle.std.proofs.Common.{◌≡◌, ℕ, ◌*◌, ◌<◌, ◌≤◌, Bool, true, false, eqb, ltb, List, [], sym, refl, ap, ◌∙◌, arith, lt-ltb, eq-eqb, ne_eqb}
+use Rattle.std.specs.Prelude.{Result, Ok, Err}
+use Rattle.common.specs.Answer.{refused}
 use Rattle.common.specs.Bytes.{Bytes}
 use Rattle.common.specs.Refusals.{no_row}
 use Rattle.common.proofs.Choice.{by_test}
-use Rattle.sheet.specs.Layout.{most_rows, row_at, depths}
+use Rattle.sheet.specs.Layout.{most_rows, row_at}
 use Rattle.sheet.specs.declared.line.Layout.{Layout}
 use Rattle.sheet.specs.declared.line.Row.{Row}
 use Rattle.tree.specs.Node.{element, Node}
 use Rattle.tree.specs.Page.{widest_pool}
 use Rattle.tree.specs.Questions.{asked_of}
-use Rattle.tree.specs.declared.questions.Asked.{Asked}
-use Rattle.tree.specs.declared.questions.Asked.TheVariants.{Of}
+use Rattle.tree.specs.declared.questions.QuestionError.{QuestionError}
 use Rattle.tree.proofs.NodeLaws.{by_kind}
 use Rattle.tree.proofs.PastLaws.{above_or_not}
 use Rattle.tree.proofs.QuestionsLaws.{asked_by_sheet}
@@ -21,8 +21,8 @@ use Rattle.links.specs.Questions.{measure_at, measure_to, measure_answer_of, out
 use Rattle.links.specs.declared.Measure.{Measure}
 use Rattle.links.specs.declared.Rule.{Rule}
 use Rattle.links.specs.declared.counts.Counts.{Counts}
-use Rattle.links.specs.declared.questions.MeasureAnswer.{MeasureAnswer}
-use Rattle.links.specs.declared.questions.MeasureAnswer.TheVariants.{Measured, NoElement}
+use Rattle.links.specs.declared.questions.MeasureError.{MeasureError}
+use Rattle.links.specs.declared.questions.MeasureError.TheVariants.{NoElement}
 use Rattle.links.proofs.MeasureLaws.{measure_too_long}
 
 module _ (rule : Rule) where
@@ -63,7 +63,7 @@ module _ (s : Bytes) (row : ℕ) (rule : Rule) where
   unfolding measure_answer_of measure_numbers
   numbers_is = asked_by_sheet s row (λ x. numbers (measure_to s row rule x)) (λ l. at (measure_at s l rule row) (eqb (row_at s l row).kind 1)) refl (λ v. refl)
     where
-      at : (m : Measure) (b : Bool) → numbers (elim b [ true ↦ Measured m | false ↦ NoElement row ]) ≡ elim b [ true ↦ outcome_numbers m | false ↦ refused no_row row ]
+      at : (m : Measure) (b : Bool) → numbers (elim b [ true ↦ Ok m | false ↦ Err (NoElement row) ]) ≡ elim b [ true ↦ outcome_numbers m | false ↦ refused no_row row ]
       at m true = refl
       at m false = refl
 
@@ -71,22 +71,22 @@ module _ (s : Bytes) (row : ℕ) (rule : Rule) where
   unfolding measure_answer_of measure_values
   values_is = asked_by_sheet s row (λ x. values (measure_to s row rule x)) (λ l. at (measure_at s l rule row) (eqb (row_at s l row).kind 1)) refl (λ v. refl)
     where
-      at : (m : Measure) (b : Bool) → values (elim b [ true ↦ Measured m | false ↦ NoElement row ]) ≡ elim b [ true ↦ outcome_values m | false ↦ [] ]
+      at : (m : Measure) (b : Bool) → values (elim b [ true ↦ Ok m | false ↦ Err (NoElement row) ]) ≡ elim b [ true ↦ outcome_values m | false ↦ [] ]
       at m true = refl
       at m false = refl
 
-  abbrev Right : MeasureAnswer → Type 0
+  abbrev Right : Result Measure MeasureError → Type 0
   Right a = (a ≡ measure_answer_of s row rule) × (numbers a ≡ measure_numbers s row rule) × (values a ≡ measure_values s row rule)
 
-  pub answer_is : {a : MeasureAnswer} {x : Asked} → a ≡ measure_to s row rule x → x ≡ asked_of s row → Right a
+  pub answer_is : {a : Result Measure MeasureError} {x : Result (Layout × Row) QuestionError} → a ≡ measure_to s row rule x → x ≡ asked_of s row → Right a
   unfolding measure_answer_of
   answer_is {a} e q =
       let p : a ≡ measure_to s row rule (asked_of s row) = e ∙ ap (measure_to s row rule) q in
       (p, ap numbers p ∙ numbers_is, ap values p ∙ values_is)
 
-  module _ {l : Layout} {r : Row} (q : Of l r ≡ asked_of s row) where
-    pub answer_of_element : {m : Measure} → r.kind ≡ 1 → m ≡ measure_at s l rule row → Right (Measured m)
-    answer_of_element k e = answer_is (ap (λ (m : Measure). Measured m) e ∙ rw (eq-eqb r.kind 1 k, measure_to)) q
+  module _ {l : Layout} {r : Row} (q : Ok (l, r) ≡ asked_of s row) where
+    pub answer_of_element : {m : Measure} → r.kind ≡ 1 → m ≡ measure_at s l rule row → Right (Ok m)
+    answer_of_element k e = answer_is (ap (λ (m : Measure). Ok m) e ∙ rw (eq-eqb r.kind 1 k, measure_to)) q
 
-    pub answer_of_other : (r.kind ≡ 1 → ⊥) → Right (NoElement row)
+    pub answer_of_other : (r.kind ≡ 1 → ⊥) → Right (Err (NoElement row))
     answer_of_other k = answer_is (rw (ne_eqb r.kind 1 k, measure_to)) q

@@ -6,20 +6,18 @@ use Rattle.sheet.specs.Accepted.{Accepted}
 use Rattle.sheet.specs.Layout.{most_rows, most_depth, row_at, depths}
 use Rattle.sheet.specs.declared.line.Layout.{Layout}
 use Rattle.sheet.specs.declared.line.Row.{Row}
-use Rattle.text.specs.Text.{is_space, squeezed, collapse_from, space_after, collapse, collapse_by}
+use Rattle.text.specs.Text.{is_space, collapse_from, space_after, collapse, collapse_by}
 use Rattle.tree.specs.Node.{Node}
 use Rattle.tree.specs.Page.{widest_pool, node_at}
 use Rattle.tree.specs.TextContent.{text_data}
 use Rattle.tree.proofs.Column.{below_length, past_length, depth_is, depth_small}
 use Rattle.tree.proofs.SheetColumn.{well_formed}
 use Rattle.tree.proofs.TextLengths.{length_small, whole_small}
-use Rattle.links.specs.Counting.{counts_of, with_text, lowered, count_row, around_after, Room, CountsUpTo}
+use Rattle.links.specs.Counting.{with_text, count_row, around_after, Room, CountsUpTo}
 use Rattle.links.specs.Links.{is_link, text_bytes, link_bytes}
 use Rattle.links.specs.declared.counts.Counting.{Counting}
-use Rattle.links.specs.declared.counts.Counts.{Counts}
 use Rattle.links.proofs.Counted.{Counted, counted_done, counted_stop, counted_more}
 use Rattle.links.proofs.LinkBounds.{counts_bounded}
-use Rattle.links.proofs.LinkLaws.{link_no_data}
 use Rattle.links.proofs.Paths.{below_mono, below_most}
 
 -- ---- a text by itself, and behind a blank

@@ -1,5 +1,5 @@
 -- Text bytes and link bytes counted together, row by row: what is counted and what is still to come are the counts of the whole.
-use Rattle.std.proofs.Common.{◌≡◌, ℕ, zero, suc, ◌+◌, ◌-◌, ◌*◌, ◌<◌, ◌≤◌, min, Bool, true, false, cond, ltb, List, [], ◌∷◌, ◌++◌, length, get_or, drop, set, sym, refl, ap, ◌∙◌, add-one, arith, length-append, get_or-set_other, get_or-set_same, le-ltb, lt-ltb}
+use Rattle.std.proofs.Common.{◌≡◌, ℕ, suc, ◌+◌, ◌-◌, ◌*◌, ◌<◌, ◌≤◌, min, Bool, true, false, cond, ltb, List, [], ◌∷◌, length, get_or, drop, set, sym, refl, ap, ◌∙◌, add-one, arith, length-append, get_or-set_other, get_or-set_same, le-ltb, lt-ltb}
 use Rattle.common.specs.Bytes.{Bytes}
 use Rattle.common.proofs.Choice.{by_test}
 use Rattle.text.specs.Text.{is_space, collapse_from, space_after, collapse_by}
@@ -12,11 +12,11 @@ use Rattle.tree.proofs.PastLaws.{past_low}
 use Rattle.tree.proofs.Scans.{past_stop, past_more, past_done}
 use Rattle.tree.proofs.TextLaws.{text_below, text_below_done, text_below_stop, text_below_more}
 use Rattle.tree.proofs.TextLengths.{length_below_of, length_more}
-use Rattle.links.specs.Counting.{with_text, lowered, count_row, one_more_if, around_after}
+use Rattle.links.specs.Counting.{with_text, lowered, count_row, around_after}
 use Rattle.links.specs.Links.{is_link, text_bytes, links_among, link_bytes}
 use Rattle.links.specs.declared.counts.Counting.{Counting}
 use Rattle.links.proofs.LinkLaws.{link_element, link_no_data}
-use Rattle.links.proofs.Paths.{below, kept, Deep, none, more, by_depth, below_yes, below_no, kept_yes, kept_no, below_mono, below_most, kept_most, kept_deep, below_kept, below_next}
+use Rattle.links.proofs.Paths.{below, kept, Deep, none, more, by_depth, below_yes, below_no, kept_yes, kept_no, below_mono, kept_most, kept_deep, below_kept, below_next}
 
 -- one link more that has text already, or that has none
 add_old : (a b k o : ℕ) → a ≤ b → suc a * k + (suc b - suc a) * o ≡ k + (a * k + (b - a) * o)

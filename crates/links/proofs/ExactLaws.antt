@@ -1,16 +1,15 @@
 -- Each of the four rules says yes exactly when the whole-number comparison does.
-use Rattle.std.proofs.Common.{◌≡◌, ℕ, zero, suc, ◌*◌, ◌^◌, ◌<◌, ◌≤◌, Bool, true, false, ◌&&◌, eqb, ltb, ◌↔◌, sym, refl, ap, ◌∙◌, le_trans, lt_of_le_of_lt, mul-le-mul_right, mul_comm, mul-le-mul_left, one-mul, mul-zero, arith, lit<, lit≤, ltb-false, ltb-true, le-ltb, lt-ltb, eqb-true}
+use Rattle.std.proofs.Common.{◌≡◌, ℕ, zero, suc, ◌*◌, ◌<◌, ◌≤◌, Bool, true, false, ◌&&◌, eqb, ltb, ◌↔◌, sym, refl, ap, ◌∙◌, le_trans, lt_of_le_of_lt, mul-le-mul_right, mul_comm, mul-le-mul_left, one-mul, mul-zero, arith, lit<, lit≤, ltb-false, ltb-true, le-ltb, lt-ltb, eqb-true}
 use lib.Ieee.{Float, lt}
 use borrow.Author.Tests.{eqb-false}
 use Rattle.common.proofs.Choice.{by_test, absurd_test}
-use Rattle.quotient.specs.Quotient.{quotient, fifth, three_fifths}
+use Rattle.quotient.specs.Quotient.{quotient}
 use Rattle.quotient.proofs.QuotientLaws.{quotient_lt, fifth_is, three_fifths_is}
 use Rattle.sheet.specs.Layout.{most_rows, depths}
 use Rattle.tree.specs.Page.{widest_pool, node_at}
 use Rattle.tree.proofs.TextLengths.{length_small}
 use Rattle.links.specs.Exact.{Possible, says_yes, RulesAreExact, ElementsAreExact}
 use Rattle.links.specs.Links.{text_bytes, link_bytes, is_too_long, exceeds, link_cluster, fifth_of_any, fifth_of500, three_fifths_of800, three_fifths_of1500}
-use Rattle.links.specs.declared.Measure.{Measure}
 use Rattle.links.specs.declared.Rule.{Rule}
 use Rattle.links.proofs.ClusterLaws.{cluster_of_element}
 use Rattle.links.proofs.CountLaws.{links_small}

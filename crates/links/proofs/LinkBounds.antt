@@ -1,7 +1,6 @@
 -- Link bytes by depth: a text stands in at most as many links as its row is deep.
 use Rattle.std.proofs.Common.{◌≡◌, ℕ, zero, suc, ◌+◌, ◌-◌, ◌*◌, ◌<◌, ◌≤◌, false, cond, List, [], ◌∷◌, ◌++◌, length, get_or, drop, refl, ap, ◌∙◌, le_trans, mul-le-mul_right, mul-le-mul_left, add-one, arith, length-append}
 use Rattle.common.proofs.Choice.{by_test}
-use Rattle.sheet.specs.Accepted.{Accepted}
 use Rattle.sheet.specs.Layout.{most_depth, depths}
 use Rattle.sheet.proofs.LayoutLaws.{depths_from_length, depths_at}
 use Rattle.text.specs.Text.{is_space}

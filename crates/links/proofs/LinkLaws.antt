@@ -1,8 +1,8 @@
 -- A link is an element, and has no data of its own.
-use Rattle.std.proofs.Common.{◌≡◌, ℕ, Bool, true, false, [], sym, refl, ap, ◌∙◌, arith}
-use Rattle.common.specs.Bytes.{Bytes, codes, same}
+use Rattle.std.proofs.Common.{◌≡◌, ℕ, true, false, [], sym, ◌∙◌, arith}
+use Rattle.common.specs.Bytes.{codes, same}
 use Rattle.common.proofs.Choice.{absurd_test}
-use Rattle.tree.specs.Node.{element, text, Node, tag}
+use Rattle.tree.specs.Node.{element, text, Node}
 use Rattle.tree.specs.TextContent.{text_data}
 use Rattle.tree.proofs.NodeLaws.{by_kind, tag_of_element, tag_of_other}
 use Rattle.tree.proofs.TextLaws.{data_of_other}

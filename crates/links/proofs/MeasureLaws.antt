@@ -1,5 +1,5 @@
 -- The measure by its tests.
-use Rattle.std.proofs.Common.{◌≡◌, ℕ, true, false, refl, eq-eqb, ne_eqb}
+use Rattle.std.proofs.Common.{◌≡◌, ℕ, true, false, eq-eqb, ne_eqb}
 use Rattle.quotient.specs.Quotient.{quotient}
 use Rattle.links.specs.Links.{is_too_long, measure_of}
 use Rattle.links.specs.declared.Measure.TheVariants.{NoText, TooLong, NoLinks, Share}

@@ -1,5 +1,5 @@
 -- The links that are open at a row, by their depths: how many are less deep than a depth, and which stay open.
-use Rattle.std.proofs.Common.{◌≡◌, ℕ, suc, ◌+◌, ◌-◌, ◌*◌, ◌<◌, ◌≤◌, true, false, ltb, List, [], ◌∷◌, length, sym, refl, ap, ◌∙◌, arith, le-ltb, lt-ltb}
+use Rattle.std.proofs.Common.{◌≡◌, ℕ, suc, ◌<◌, ◌≤◌, true, false, ltb, List, [], ◌∷◌, length, refl, ap, arith, le-ltb, lt-ltb}
 use Rattle.tree.proofs.PastLaws.{above_or_not}
 
 -- how many are less deep than x

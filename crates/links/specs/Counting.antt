@@ -16,6 +16,10 @@ use Rattle.links.specs.declared.counts.Counts.{Counts}
 abbrev pub counts_of : (ℕ → Node) → List ℕ → ℕ → Counts
 counts_of node_of depths i = record { text = text_bytes node_of depths i; links = link_bytes node_of depths i }
 
+-- what is counted so far
+abbrev pub counts_in : Counting → Counts
+counts_in c = record { text = c.text; links = c.links }
+
 -- of the `above` links that a text stands in, `old` have text already and go on behind it; the others begin with this one
 abbrev pub with_text : Counting → ℕ → ℕ → ℕ → Bytes → Counting
 with_text c depth above old [] = c

@@ -1,5 +1,5 @@
 -- The link measure asked of a byte string, and its numbers (document 01, module 4 and "Who can cause which number", 35).
-use Rattle.std.specs.Prelude.{ℕ, true, false, List, [], ◌∷◌, ◌==◌, to_bits}
+use Rattle.std.specs.Prelude.{Result, Ok, Err, ℕ, true, false, List, [], ◌∷◌, ◌==◌, to_bits}
 use Rattle.std.specs.Float.{binary64}
 use Rattle.common.specs.Answer.{Answer, refused, accepted}
 use Rattle.common.specs.Bytes.{Bytes}
@@ -8,27 +8,31 @@ use Rattle.sheet.specs.Layout.{row_at, depths}
 use Rattle.sheet.specs.Verdict as verdict
 use Rattle.sheet.specs.declared.line.Layout.{Layout}
 use Rattle.tree.specs.Page.{node_at}
+use Rattle.sheet.specs.declared.line.Row.{Row}
 use Rattle.tree.specs.Questions.{asked_of, by_sheet}
-use Rattle.tree.specs.declared.questions.Asked.{Asked}
-use Rattle.tree.specs.declared.questions.Asked as asked
+use Rattle.tree.specs.declared.questions.QuestionError.{QuestionError}
+use Rattle.tree.specs.declared.questions.QuestionError as question
 use Rattle.links.specs.Links.{text_bytes, link_bytes, measure_of}
 use Rattle.links.specs.declared.Measure.{Measure}
 use Rattle.links.specs.declared.Measure.TheVariants.{NoText, TooLong, NoLinks, Share}
 use Rattle.links.specs.declared.Rule.{Rule}
-use Rattle.links.specs.declared.questions.MeasureAnswer.{MeasureAnswer}
-use Rattle.links.specs.declared.questions.MeasureAnswer.TheVariants.{Measured, NoElement, Refused}
+use Rattle.links.specs.declared.questions.MeasureError.{MeasureError}
+use Rattle.links.specs.declared.questions.MeasureError.TheVariants.{Refused, NoElement}
 
 -- the measure of a row of a sheet
 abbrev pub measure_at : Bytes → Layout → Rule → ℕ → Measure
 measure_at s l rule i = measure_of rule (text_bytes (node_at s l) (depths s l) i) (link_bytes (node_at s l) (depths s l) i)
 
 -- 35: "a row not below N, or for the link measure not an element"
-abbrev pub measure_to : Bytes → ℕ → Rule → Asked → MeasureAnswer
-measure_to s row rule (asked.TheVariants.Of l r) = elim (r.kind == 1) [ true ↦ Measured (measure_at s l rule row) | false ↦ NoElement row ]
-measure_to s row rule (asked.TheVariants.NoRow i) = NoElement i
-measure_to s row rule (asked.TheVariants.Refused v) = Refused v
+abbrev pub measure_error : QuestionError → MeasureError
+measure_error (question.TheVariants.Refused e) = Refused e
+measure_error (question.TheVariants.NoRow i) = NoElement i
 
-unfoldable pub measure_answer_of : Bytes → ℕ → Rule → MeasureAnswer
+abbrev pub measure_to : Bytes → ℕ → Rule → Result (Layout × Row) QuestionError → Result Measure MeasureError
+measure_to s row rule (Ok p) = elim (p.1.kind == 1) [ true ↦ Ok (measure_at s p.0 rule row) | false ↦ Err (NoElement row) ]
+measure_to s row rule (Err e) = Err (measure_error e)
+
+unfoldable pub measure_answer_of : Bytes → ℕ → Rule → Result Measure MeasureError
 measure_answer_of s row rule = measure_to s row rule (asked_of s row)
 
 -- the outcomes in document 01's order
@@ -49,20 +53,22 @@ outcome_values NoLinks = 2 ∷ []
 outcome_values (Share share) = 3 ∷ to_bits binary64 share ∷ []
 
 -- the numbers and the values of each case
-abbrev pub numbers : MeasureAnswer → Answer
-numbers (Measured m) = outcome_numbers m
-numbers (NoElement i) = refused no_row i
-numbers (Refused v) = verdict.numbers v
+abbrev pub refusal : MeasureError → Answer
+refusal (NoElement i) = refused no_row i
+refusal (Refused e) = verdict.refusal e
 
-abbrev pub values : MeasureAnswer → List ℕ
-values (Measured m) = outcome_values m
-values (NoElement i) = []
-values (Refused v) = []
+abbrev pub numbers : Result Measure MeasureError → Answer
+numbers (Ok m) = outcome_numbers m
+numbers (Err e) = refusal e
+
+abbrev pub values : Result Measure MeasureError → List ℕ
+values (Ok m) = outcome_values m
+values (Err e) = []
 
 -- the numbers and the values of the whole answer, by the sheet alone
 unfoldable pub measure_numbers : Bytes → ℕ → Rule → Answer
 measure_numbers s row rule =
-    by_sheet (λ l. elim ((row_at s l row).kind == 1) [ true ↦ outcome_numbers (measure_at s l rule row) | false ↦ refused no_row row ]) (refused no_row row) verdict.numbers s row
+    by_sheet (λ l. elim ((row_at s l row).kind == 1) [ true ↦ outcome_numbers (measure_at s l rule row) | false ↦ refused no_row row ]) (refused no_row row) verdict.refusal s row
 
 unfoldable pub measure_values : Bytes → ℕ → Rule → List ℕ
 measure_values s row rule = by_sheet (λ l. elim ((row_at s l row).kind == 1) [ true ↦ outcome_values (measure_at s l rule row) | false ↦ [] ]) [] (λ v. []) s row

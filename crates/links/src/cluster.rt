@@ -17,9 +17,10 @@ fn most_of(rule: Rule) -> usize
     ensures { result ≡ most_of rule }
 {
     if rule.limit > 0 {
-        return rule.limit;
+        rule.limit
+    } else {
+        usize::MAX
     }
-    18446744073709551615
 }
 
 pub fn measure_row(s: &[u8], l: Layout, i: usize, rule: Rule) -> Measure
@@ -35,8 +36,5 @@ pub fn link_cluster(s: &[u8], l: Layout, i: usize, rule: Rule) -> bool
     ensures { result ≡ link_cluster (node_at s.now l) (depths s.now l) rule i }
 {
     let r = row_at(s, l, i);
-    if r.kind != 1 {
-        return false;
-    }
-    exceeds(rule, measure_row(s, l, i, rule))
+    r.kind == 1 && exceeds(rule, measure_row(s, l, i, rule))
 }

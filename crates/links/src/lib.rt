@@ -10,14 +10,14 @@ ghost use Rattle.std.specs.Prelude.{◌≡◌};
 ghost use Rattle.links.specs.Links.{exceeds, fifth_of500, fifth_of_any, is_too_long, measure_of, three_fifths_of1500, three_fifths_of800};
 ghost use Rattle.quotient.specs.Quotient.{quotient};
 
-// A ratio and a length limit; limit 0 is none.
-#[derive(Clone, Copy)]
+// A ratio and a length limit; limit 0 is none. It stays a number: C hands it over as it is, and `is_too_long` and `most_of` are said of it.
+#[derive(Clone, Copy, Debug, PartialEq)]
 pub struct Rule {
     pub ratio: f64,
     pub limit: usize,
 }
 
-#[derive(Clone, Copy)]
+#[derive(Clone, Copy, Debug, PartialEq)]
 pub enum Measure {
     NoText,
     TooLong,
@@ -25,6 +25,7 @@ pub enum Measure {
     Share(f64),
 }
 
+// Each of the four is a function: its clause says which of the named rules it is, and a const would have no clause.
 impl Rule {
     pub fn fifth_of_any() -> Rule
         ensures { result ≡ fifth_of_any }
@@ -94,10 +95,5 @@ pub fn measured(rule: Rule, text: usize, links: usize) -> Measure
 pub fn exceeds(rule: Rule, m: Measure) -> bool
     ensures { result ≡ exceeds rule m }
 {
-    match m {
-        Measure::NoText => false,
-        Measure::TooLong => false,
-        Measure::NoLinks => false,
-        Measure::Share(share) => share > rule.ratio,
-    }
+    matches!(m, Measure::Share(share) if share > rule.ratio)
 }

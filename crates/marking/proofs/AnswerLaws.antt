@@ -1,4 +1,5 @@
 -- The marker's answer, by the verdict.
+use Rattle.std.specs.Prelude.{Result, Ok, Err}
 use mathlib.Core.Path.{◌≡◌, sym, ap, ◌∙◌}
 use mathlib.Core.Bool.{Bool}
 use Prim.Native.Nat.{ℕ}
@@ -6,32 +7,25 @@ use Rattle.common.specs.Bytes.{Bytes}
 use Rattle.options.specs.declared.ExtractOptions.{ExtractOptions}
 use Rattle.sheet.specs.Verdict.{verdict}
 use Rattle.sheet.specs.declared.line.Layout.{Layout}
-use Rattle.sheet.specs.declared.verdict.Verdict.{Verdict}
-use Rattle.sheet.specs.declared.verdict.Verdict.TheVariants.{Sheet}
-use Rattle.sheet.proofs.Acceptance.{NotSheet, not_sheet}
+use Rattle.sheet.specs.declared.verdict.SheetError.{SheetError}
 use Rattle.sheet_form.specs.Encoding.{encode, decode}
-use Rattle.tree.proofs.QuestionsLaws.{on_sheet_refused}
 use Rattle.marking.specs.Answers.{marked_of, sheet_after, numbers}
 use Rattle.marking.specs.Marks.{marked, marks}
-use Rattle.marking.specs.declared.Marked.{Marked}
-use Rattle.marking.specs.declared.Marked.TheVariants.{Marks, Refused}
 
 module _ (s : Bytes) (o : ExtractOptions) (noscript : Bool) where
   -- what `mark` ensures
-  abbrev Promised : Marked → Bytes → Type 0
+  abbrev Promised : Result ℕ SheetError → Bytes → Type 0
   Promised r t = (r ≡ marked_of s o noscript) × (t ≡ sheet_after s o noscript) × (numbers r ≡ numbers (marked_of s o noscript))
 
-  promised : {r : Marked} {t : Bytes} → r ≡ marked_of s o noscript → t ≡ sheet_after s o noscript → Promised r t
+  promised : {r : Result ℕ SheetError} {t : Bytes} → r ≡ marked_of s o noscript → t ≡ sheet_after s o noscript → Promised r t
   promised p q = (p, q, ap numbers p)
 
-  pub marked_refused : {v : Verdict} → v ≡ verdict s → NotSheet v → Promised (Refused v) s
+  pub marked_refused : {e : SheetError} → verdict s ≡ Err e → Promised (Err e) s
   unfolding marked_of sheet_after
-  marked_refused {v} e k =
-      promised (rw (← e) (sym (on_sheet_refused _ Refused v (not_sheet v k))))
-      (rw (← e) (sym (on_sheet_refused _ (λ x. s) v (not_sheet v k))))
+  marked_refused e = promised (rw e) (rw e)
 
-  module _ {l : Layout} (e : verdict s ≡ Sheet l) where
-    pub answer_is : marked_of s o noscript ≡ Marks (marks o noscript (decode l s))
+  module _ {l : Layout} (e : verdict s ≡ Ok l) where
+    pub answer_is : marked_of s o noscript ≡ Ok (marks o noscript (decode l s))
     unfolding marked_of
     answer_is = rw e
 
@@ -40,5 +34,5 @@ module _ (s : Bytes) (o : ExtractOptions) (noscript : Bool) where
     after_is = rw e
 
     pub marked_sheet : {n : ℕ} {t : Bytes} → (n ≡ marks o noscript (decode l s)) × (t ≡ encode l.width (marked o noscript (decode l s)))
-        → Promised (Marks n) t
-    marked_sheet x = promised (ap Marks x.0 ∙ sym answer_is) (x.1 ∙ sym after_is)
+        → Promised (Ok n) t
+    marked_sheet x = promised (ap Ok x.0 ∙ sym answer_is) (x.1 ∙ sym after_is)

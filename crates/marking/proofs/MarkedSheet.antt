@@ -1,4 +1,5 @@
 -- A sheet that was marked.
+use Rattle.std.specs.Prelude.{Ok}
 use mathlib.Core.Path.{◌≡◌, refl, sym, ap, ap₂, ◌∙◌, subst}
 use mathlib.Core.Bool.{Bool, true, false, ◌&&◌, ◌||◌}
 use mathlib.Core.List.{List, [], ◌∷◌}
@@ -18,7 +19,6 @@ use Rattle.sheet.specs.Layout.{node_start, depths, part_of, pool_of}
 use Rattle.sheet.specs.Verdict.{verdict}
 use Rattle.sheet.specs.declared.line.Layout.{Layout}
 use Rattle.sheet.specs.declared.line.Row.{Row}
-use Rattle.sheet.specs.declared.verdict.Verdict.TheVariants.{Sheet}
 use Rattle.sheet.proofs.LayoutLaws.{range_in_pool}
 use Rattle.sheet.proofs.WritingColumns.{columns_length}
 use Rattle.sheet_form.specs.Decoded.{Decoded, row_in, range_in, depths_in}
@@ -38,7 +38,6 @@ use Rattle.marking.specs.Answers.{sheet_after}
 use Rattle.marking.specs.Marks.{is_listed, to_mark, is_new, marked, marks}
 use Rattle.marking.specs.Names.{skip_names}
 use Rattle.marking.specs.Theorems.{InSkipOf, Chosen, SheetMarked}
-use Rattle.marking.specs.declared.Marked.TheVariants.{Marks}
 use Rattle.marking.proofs.AnswerLaws.{answer_is, after_is}
 use Rattle.marking.proofs.MarkLaws.{marked_to, to_but_marks, to_new, to_old, to_none, to_all, marked_at, marked_there, marked_not, marks_none, marked_none}
 use Rattle.marking.proofs.MarkingRows.{past_last, sheet_to, to_decodes}
@@ -197,7 +196,7 @@ module _ (o : ExtractOptions) (noscript : Bool) {s : Bytes} {l : Layout} (a : De
 
 -- ---- all of it
 
-pub sheet_marked : (s : Bytes) (l : Layout) (o : ExtractOptions) (noscript : Bool) → verdict s ≡ Sheet l → SheetMarked s l o noscript
+pub sheet_marked : (s : Bytes) (l : Layout) (o : ExtractOptions) (noscript : Bool) → verdict s ≡ Ok l → SheetMarked s l o noscript
 sheet_marked s l o noscript e =
     let a = decodes e in
     let w = l.width in
@@ -216,8 +215,8 @@ sheet_marked s l o noscript e =
       marks = λ i h. ap (λ (x : Bytes). (page_of x l).marked i) after ∙ mark_is o noscript s l a i h;
       none_again =
           answer_is (sheet_after s o noscript) o noscript accepted
-          ∙ ap (λ (x : Decoded). Marks (marks o noscript x)) decoded
-          ∙ ap Marks (marks_again o noscript s l a);
+          ∙ ap (λ (x : Decoded). Ok (marks o noscript x)) decoded
+          ∙ ap Ok (marks_again o noscript s l a);
       same_again =
           after_is (sheet_after s o noscript) o noscript accepted
           ∙ ap (λ (x : Decoded). encode w (marked o noscript x)) decoded

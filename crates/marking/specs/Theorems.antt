@@ -1,12 +1,11 @@
 -- What holds of every sheet that is marked.
-use Rattle.std.specs.Prelude.{◌≡◌, Bool, true, ◌||◌, ◌↔◌, ℕ, ◌+◌, ◌*◌, ◌≤◌, ◌<◌, length, get_or}
+use Rattle.std.specs.Prelude.{◌≡◌, Bool, true, ◌||◌, ◌↔◌, ℕ, ◌+◌, ◌*◌, ◌≤◌, ◌<◌, length, get_or, Ok}
 use Rattle.common.specs.Bytes.{Bytes}
 use Rattle.options.specs.declared.ExtractOptions.{ExtractOptions}
 use Rattle.sheet.specs.Column.{parent_of}
 use Rattle.sheet.specs.Layout.{node_start}
 use Rattle.sheet.specs.Verdict.{verdict}
 use Rattle.sheet.specs.declared.line.Layout.{Layout}
-use Rattle.sheet.specs.declared.verdict.Verdict.TheVariants.{Sheet}
 use Rattle.sheet_form.specs.Encoding.{decode}
 use Rattle.tags.specs.Words.{one_of}
 use Rattle.tree.specs.Forest.{Descendant}
@@ -16,7 +15,6 @@ use Rattle.marking.specs.Answers.{marked_of, sheet_after}
 use Rattle.marking.specs.Examples.{ExamplesRight}
 use Rattle.marking.specs.Marks.{to_mark, is_new}
 use Rattle.marking.specs.Names.{skip_names}
-use Rattle.marking.specs.declared.Marked.TheVariants.{Marks}
 
 -- place k of the sheet lies in the third column of row i's line: "depth, kind, skip, .."
 pub record InSkipOf (l : Layout) (i k : ℕ) : Type 0 where
@@ -39,7 +37,7 @@ module _ (s : Bytes) (l : Layout) (o : ExtractOptions) (noscript : Bool) where
   pub record SheetMarked : Type 0 where
     pub rows : (i : ℕ) → i < l.nodes → (chosen i ≡ true) ↔ Chosen (page_of s l) o noscript i
     -- the marked sheet is accepted
-    pub accepted : verdict after ≡ Sheet l
+    pub accepted : verdict after ≡ Ok l
     -- every byte outside the skip fields that it sets is as it was
     pub size : length after ≡ length s
     pub bytes : (k : ℕ) → ((i : ℕ) → i < l.nodes → is_new o noscript (decode l s) i ≡ true → InSkipOf l i k → ⊥)
@@ -47,9 +45,9 @@ module _ (s : Bytes) (l : Layout) (o : ExtractOptions) (noscript : Bool) where
     -- marked are then those that are to be marked and those that were marked
     pub marks : (i : ℕ) → i < l.nodes → (page_of after l).marked i ≡ (chosen i || (page_of s l).marked i)
     -- marking again with the same options sets none and changes nothing
-    pub none_again : marked_of after o noscript ≡ Marks 0
+    pub none_again : marked_of after o noscript ≡ Ok 0
     pub same_again : sheet_after after o noscript ≡ after
 
 pub record Theorems : Type 0 where
-  pub marked : (s : Bytes) (l : Layout) (o : ExtractOptions) (noscript : Bool) → verdict s ≡ Sheet l → SheetMarked s l o noscript
+  pub marked : (s : Bytes) (l : Layout) (o : ExtractOptions) (noscript : Bool) → verdict s ≡ Ok l → SheetMarked s l o noscript
   pub examples : ExamplesRight

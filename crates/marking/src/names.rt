@@ -10,7 +10,7 @@ use options::ExtractOptions;
 use tags::pack;
 
 // The list that a name stands in.
-#[derive(Clone, Copy)]
+#[derive(Clone, Copy, Debug, PartialEq, Eq)]
 pub enum SkipList {
     Always,
     Media,
@@ -19,7 +19,8 @@ pub enum SkipList {
     Unlisted,
 }
 
-// Names of up to 7 bytes.
+// Names of up to 7 bytes, by their numbers: one comparison each, and a goal each, where a match on byte strings tests byte by byte, with a
+// goal wherever one differs.
 fn list_of_seven(v: u64) -> SkipList
     ensures { result ≡ packed list_of Unlisted short_names v }
 {
@@ -62,7 +63,7 @@ fn list_of_seven(v: u64) -> SkipList
     }
 }
 
-// Names of 8 bytes and more.
+// Names of 8 bytes and more. A match on their byte strings has a goal for each byte at which one differs.
 fn list_of_long(name: &[u8]) -> SkipList
     requires { 8 ≤ length name.now }
     ensures { result ≡ list_of name.now }

@@ -1,12 +1,13 @@
 // Answers that have more than the four numbers; C reads them as they stand.
 ghost use Rattle.std.specs.Prelude.{◌≡◌};
-ghost use Rattle.numbers.specs.Values.{link_measure_of, range_of, share_in, yes_in};
+ghost use Rattle.numbers.specs.Values.{link_measure_of, range_of, share_in};
 
-use crate::{of_attribute, of_measure};
+use crate::ToAnswer;
 use common::Answer;
-use links::questions::MeasureAnswer;
+use links::questions::MeasureError;
 use links::{Measure, Rule, exceeds};
-use tree::attributes::AttributeAnswer;
+use tree::attributes::Span;
+use tree::questions::QuestionError;
 
 // An attribute's range in the pool: present is 1 where there is one, and its length is the answer's.
 #[repr(C)]
@@ -26,21 +27,23 @@ pub struct LinkMeasure {
     pub share: f64,
 }
 
-pub fn range_of(a: AttributeAnswer) -> Range
-    ensures { result ≡ range_of a }
-{
-    let answer = of_attribute(a);
-    let AttributeAnswer::At { at, len: _ } = a else {
-        return Range {
-            answer,
-            present: 0,
-            at: 0,
-        };
-    };
-    Range {
-        answer,
-        present: 1,
-        at,
+impl From<Result<Option<Span>, QuestionError>> for Range {
+    ghost from_gives = { λ found range. range ≡ range_of found };
+
+    fn from(found: Result<Option<Span>, QuestionError>) -> Range {
+        let answer = found.to_answer();
+        match found {
+            Ok(Some(value)) => Range {
+                answer,
+                present: 1,
+                at: value.at,
+            },
+            _ => Range {
+                answer,
+                present: 0,
+                at: 0,
+            },
+        }
     }
 }
 
@@ -48,36 +51,25 @@ fn share_in(m: Measure) -> f64
     ensures { result ≡ share_in m }
 {
     match m {
-        Measure::NoText => 0.0,
-        Measure::TooLong => 0.0,
-        Measure::NoLinks => 0.0,
         Measure::Share(share) => share,
+        _ => 0.0,
     }
 }
 
-fn yes_in(rule: Rule, m: Measure) -> usize
-    ensures { result ≡ yes_in rule m }
+pub fn link_measure_of(rule: Rule, found: Result<Measure, MeasureError>) -> LinkMeasure
+    ensures { result ≡ link_measure_of rule found }
 {
-    if exceeds(rule, m) {
-        return 1;
-    }
-    0
-}
-
-pub fn link_measure_of(rule: Rule, a: MeasureAnswer) -> LinkMeasure
-    ensures { result ≡ link_measure_of rule a }
-{
-    let answer = of_measure(a);
-    let MeasureAnswer::Measured(m) = a else {
-        return LinkMeasure {
+    let answer = found.to_answer();
+    match found {
+        Ok(m) => LinkMeasure {
+            answer,
+            exceeds: usize::from(exceeds(rule, m)),
+            share: share_in(m),
+        },
+        Err(_) => LinkMeasure {
             answer,
             exceeds: 0,
             share: 0.0,
-        };
-    };
-    LinkMeasure {
-        answer,
-        exceeds: yes_in(rule, m),
-        share: share_in(m),
+        },
     }
 }

@@ -1,29 +1,35 @@
 -- The option line's flags, one after the other.
-use mathlib.Core.Path.{◌≡◌}
-use mathlib.Core.Bool.{true, false}
-use Prim.Native.Nat.{ℕ, ◌+◌, ◌≤◌, ◌<◌}
-use native.Mathlib.Numerals.{add-one}
-use lib.ListN.{length, drop, get_or, drop_of_length-le}
-use lib.Seq.{drop-cons}
+use mathlib.Core.Path.{◌≡◌, refl, ap, ◌∙◌}
+use mathlib.Core.Bool.{Bool, true, false, ◌&&◌}
+use mathlib.Core.List.{[], ◌∷◌}
+use Prim.Native.Nat.{◌≤◌}
+use lib.ListN.{length}
 use borrow.Author.Tests.{leb-true}
+use Rattle.std.specs.List.{list_all}
 use Rattle.common.specs.Bytes.{Bytes}
 use Rattle.common.proofs.Choice.{and_parts}
+use Rattle.common.proofs.TestLaws.{and_no}
 use Rattle.options.specs.Line.{line_length, is_flag, flags_right, line_right}
 
-module _ (s : Bytes) (i : ℕ) (h : i < length s) where
-  pub flag_wrong : is_flag (get_or s i 0) ≡ false → false ≡ flags_right (drop i s)
-  unfolding flags_right
-  flag_wrong e = rw (drop-cons s i 0 h, flags_right, e)
-
-  pub flag_next : is_flag (get_or s i 0) ≡ true → flags_right (drop (i + 1) s) ≡ flags_right (drop i s)
-  unfolding flags_right
-  flag_next e = rw (add-one, drop-cons s i 0 h, flags_right, e)
-
-pub flags_done : (s : Bytes) (i : ℕ) → length s ≤ i → true ≡ flags_right (drop i s)
+pub flags_all : (s : Bytes) → list_all is_flag s ≡ flags_right s
 unfolding flags_right
-flags_done s i h = rw (drop_of_length-le s {i = i} h)
+flags_all [] = refl
+flags_all (b ∷ s) = ap (λ r. is_flag b && r) (flags_all s)
 
 -- a line that is right is there whole
 pub line_long : (s : Bytes) → line_right s ≡ true → line_length ≤ length s
 unfolding line_right
 line_long s e = leb-true line_length (length s) (and_parts _ _ e).0
+
+-- ---- tests that are joined from the left
+
+pub so_far : {v a : Bool} (b : Bool) → v ≡ a → a ≡ false → v ≡ (a && b)
+so_far b p e = p ∙ e ∙ and_no b e
+
+shifted : (a b c d : Bool) → (((a && b) && c) && d) ≡ (a && (b && (c && d)))
+shifted false b c d = refl
+shifted true false c d = refl
+shifted true true c d = refl
+
+pub joined : (a b c d : Bool) {v w r : Bool} → v ≡ (a && b) → w ≡ (v && c) → r ≡ (w && d) → r ≡ (a && (b && (c && d)))
+joined a b c d p q t = rw (t, q, p) (shifted a b c d)

@@ -1,6 +1,6 @@
 -- The option line: "ten digits, formatting 0 to 2 in the order above, then nine 0 or 1, and LF" (document 01, "Pages and their texts"), and
 -- missing_alt, "an eleventh digit of the program's line" (document 02, CR 4).
-use Rattle.std.specs.Prelude.{Bool, true, ◌&&◌, cond, [], ◌∷◌, ℕ, ◌-◌, leb, eqb, length, get_or, take, drop}
+use Rattle.std.specs.Prelude.{Option, None, Some, Bool, true, ◌&&◌, cond, [], ◌∷◌, ℕ, ◌-◌, leb, eqb, length, get_or, take, drop}
 use Rattle.common.specs.Answer.{Answer, refused, written}
 use Rattle.common.specs.Bytes.{Bytes}
 use Rattle.common.specs.Refusals.{wrong_options}
@@ -8,8 +8,6 @@ use Rattle.options.specs.Options.{place, options_by}
 use Rattle.options.specs.declared.ExtractOptions.{ExtractOptions}
 use Rattle.options.specs.declared.Formatting.{Formatting}
 use Rattle.options.specs.declared.Formatting.TheVariants.{Off, Basic, MinimalHtml}
-use Rattle.options.specs.declared.line.OptionLine.{OptionLine}
-use Rattle.options.specs.declared.line.OptionLine.TheVariants.{Options, Wrong}
 
 -- the digits and LF
 abbrev pub line_length : ℕ
@@ -41,10 +39,10 @@ unfoldable pub options_in : Bytes → ExtractOptions
 options_in s = options_by (formatting_of (get_or s 0 0)) (λ f. flag_at s (place f))
 
 -- what follows the line is not looked at
-abbrev pub line_of : Bytes → OptionLine
-line_of s = cond (line_right s) (Options (options_in s)) Wrong
+abbrev pub line_of : Bytes → Option ExtractOptions
+line_of s = cond (line_right s) (Some (options_in s)) None
 
 -- "33: the program's option line is wrong; .. Second number 0."
-abbrev pub numbers : OptionLine → Answer
-numbers (Options o) = written 0
-numbers Wrong = refused wrong_options 0
+abbrev pub numbers : Option ExtractOptions → Answer
+numbers (Some o) = written 0
+numbers None = refused wrong_options 0

@@ -7,7 +7,7 @@ pub mod line;
 ghost use Rattle.std.specs.Prelude.{◌≡◌};
 ghost use Rattle.options.specs.Options.{is_basic, is_minimal_html, is_off, standing};
 
-#[derive(Clone, Copy)]
+#[derive(Clone, Copy, Debug, PartialEq, Eq)]
 pub enum Formatting {
     Off,
     Basic,
@@ -18,36 +18,24 @@ impl Formatting {
     pub fn is_off(self) -> bool
         ensures { result ≡ is_off self }
     {
-        match self {
-            Formatting::Off => true,
-            Formatting::Basic => false,
-            Formatting::MinimalHtml => false,
-        }
+        self == Formatting::Off
     }
 
     pub fn is_basic(self) -> bool
         ensures { result ≡ is_basic self }
     {
-        match self {
-            Formatting::Off => false,
-            Formatting::Basic => true,
-            Formatting::MinimalHtml => false,
-        }
+        self == Formatting::Basic
     }
 
     pub fn is_minimal_html(self) -> bool
         ensures { result ≡ is_minimal_html self }
     {
-        match self {
-            Formatting::Off => false,
-            Formatting::Basic => false,
-            Formatting::MinimalHtml => true,
-        }
+        self == Formatting::MinimalHtml
     }
 }
 
 // `icons`: false as the Rust, true private. `missing_alt`: whether a word stands for an alt that is absent.
-#[derive(Clone, Copy)]
+#[derive(Clone, Copy, Debug, PartialEq, Eq)]
 pub struct ExtractOptions {
     pub formatting: Formatting,
     pub main_content: bool,
@@ -62,11 +50,11 @@ pub struct ExtractOptions {
     pub missing_alt: bool,
 }
 
-impl ExtractOptions {
-    // The standing options.
-    pub fn default() -> ExtractOptions
-        ensures { result ≡ standing }
-    {
+// The standing options.
+impl Default for ExtractOptions {
+    ghost is_default = { λ o. o ≡ standing };
+
+    fn default() -> ExtractOptions {
         ExtractOptions {
             formatting: Formatting::Basic,
             main_content: false,

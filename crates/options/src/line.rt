@@ -7,69 +7,44 @@ use crate::{ExtractOptions, Formatting};
 // The digits and LF.
 pub const LENGTH: usize = 12;
 
-#[derive(Clone, Copy)]
-pub enum OptionLine {
-    Options(ExtractOptions),
-    Wrong,
-}
+const LINE_FEED: u8 = b'\n';
 
 fn is_flag(b: u8) -> bool
     ensures { result ≡ is_flag b }
 {
-    if b < 48 {
-        return false;
-    }
-    b <= 49
+    matches!(b, b'0'..=b'1')
 }
 
 fn is_formatting(b: u8) -> bool
     ensures { result ≡ is_formatting b }
 {
-    if b < 48 {
-        return false;
-    }
-    b <= 50
+    matches!(b, b'0'..=b'2')
 }
 
 fn formatting_of(b: u8) -> Formatting
     ensures { result ≡ formatting_of b }
 {
-    if b == 48 {
-        return Formatting::Off;
+    match b {
+        b'0' => Formatting::Off,
+        b'1' => Formatting::Basic,
+        _ => Formatting::MinimalHtml,
     }
-    if b == 49 {
-        return Formatting::Basic;
-    }
-    Formatting::MinimalHtml
 }
 
 // Whether each byte is 0 or 1.
 fn flags_right(s: &[u8]) -> bool
     ensures { result ≡ flags_right s.now }
 {
-    let mut i = 0;
-    while i < s.len() {
-        if !is_flag(s[i]) {
-            return false;
-        }
-        i += 1;
-    }
-    true
+    s.iter().all(|&b| is_flag(b))
 }
 
 fn line_right(input: &[u8]) -> bool
     ensures { result ≡ line_right input.now }
 {
-    if input.len() < LENGTH {
-        return false;
-    }
-    if input[LENGTH - 1] != 10 {
-        return false;
-    }
-    if !is_formatting(input[0]) {
-        return false;
-    }
-    flags_right(&input[1..LENGTH - 1])
+    input.len() >= LENGTH
+        && input[LENGTH - 1] == LINE_FEED
+        && is_formatting(input[0])
+        && flags_right(&input[1..LENGTH - 1])
 }
 
 // The options of a line that is right.
@@ -79,25 +54,25 @@ fn options_in(line: &[u8]) -> ExtractOptions
 {
     ExtractOptions {
         formatting: formatting_of(line[0]),
-        main_content: line[1] == 49,
-        list_bullets: line[2] == 49,
-        alt_texts: line[3] == 49,
-        links: line[4] == 49,
-        form_fields: line[5] == 49,
-        comments: line[6] == 49,
-        post_meta: line[7] == 49,
-        hidden_elements: line[8] == 49,
-        icons: line[9] == 49,
-        missing_alt: line[10] == 49,
+        main_content: line[1] == b'1',
+        list_bullets: line[2] == b'1',
+        alt_texts: line[3] == b'1',
+        links: line[4] == b'1',
+        form_fields: line[5] == b'1',
+        comments: line[6] == b'1',
+        post_meta: line[7] == b'1',
+        hidden_elements: line[8] == b'1',
+        icons: line[9] == b'1',
+        missing_alt: line[10] == b'1',
     }
 }
 
 // The option line that the input begins with; what follows it is not looked at.
-pub fn read_line(input: &[u8]) -> OptionLine
+pub fn read_line(input: &[u8]) -> Option<ExtractOptions>
     ensures { result ≡ line_of input.now }
 {
     if !line_right(input) {
-        return OptionLine::Wrong;
+        return None;
     }
-    OptionLine::Options(options_in(input))
+    Some(options_in(input))
 }

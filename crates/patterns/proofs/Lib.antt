@@ -5,6 +5,7 @@ pub mod ExampleLaws
 pub mod Lengths
 pub mod MaskNumbers
 pub mod MatchLaws
+pub mod NumberLaws
 pub mod SearchLaws
 pub mod SetLaws
 pub mod StartLaws

@@ -168,7 +168,7 @@ const MASKS: Masks = [
     0, 0, 0, 0, 0, 0, 0, 0, 0,
 ];
 
-// A caller makes the table once and lends it.
+// A copy of the table. It has no caller, and stays because docs/DECISIONS.md names it.
 pub fn masks() -> Masks
     ensures { MaskTable result }
 {

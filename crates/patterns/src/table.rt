@@ -125,7 +125,7 @@ const STEPS: Steps = [
     1712, 1792, 1792, 1648, 1856, 18, 5, 11, 16, 6,
 ];
 
-// A caller makes the table once and lends it.
+// A copy of the table. It has no caller, and stays because docs/PROOFS.md and docs/DECISIONS.md name it.
 pub fn steps() -> Steps
     ensures { result ≡ step_codes }
 {

@@ -1,5 +1,6 @@
 -- Every number that is printed is below 100,000,000.
-use mathlib.Core.Path.{◌≡◌, refl, sym, ap, ◌∙◌}
+use Rattle.std.specs.Prelude.{Result, Ok, Err, Option, Some, None}
+use mathlib.Core.Path.{subst, ◌≡◌, refl, sym, ap, ◌∙◌}
 use mathlib.Core.Bool.{Bool, true}
 use mathlib.Core.List.{[], ◌++◌, append-nil}
 use Prim.Native.Nat.{ℕ, ◌+◌, ◌-◌, ◌*◌, ◌≤◌, ◌<◌}
@@ -16,20 +17,18 @@ use Rattle.common.proofs.Choice.{by_test, by_cond}
 use Rattle.html2text.specs.Bounds.{beside, AnswerBounded, written_by}
 use Rattle.html2text.specs.Extract.{numbers, extraction}
 use Rattle.html2text.specs.Extract as extract
-use Rattle.html2text.specs.declared.Extraction.{Extraction}
-use Rattle.html2text.specs.declared.Extraction.TheVariants.{Refused}
+use Rattle.html2text.specs.declared.ExtractError.{ExtractError}
+use Rattle.html2text.specs.declared.Extracted.{Extracted}
+use Rattle.html2text.specs.declared.ExtractError.TheVariants.{Refused}
 use Rattle.html2text.proofs.AnswerBounds.{extraction_bounded}
 use Rattle.options.specs.Line.{line_length, line_of}
 use Rattle.options.specs.declared.ExtractOptions.{ExtractOptions}
-use Rattle.options.specs.declared.line.OptionLine.{OptionLine}
-use Rattle.options.specs.declared.line.OptionLine.TheVariants.{Options, Wrong}
 use Rattle.reader.specs.Extraction.{filters, extraction_of, out_after_of}
 use Rattle.sheet.specs.Accepted.{Accepted}
 use Rattle.sheet.specs.Lines.{short_line_of}
 use Rattle.sheet.specs.Verdict.{verdict}
 use Rattle.sheet.specs.declared.line.Layout.{Layout}
-use Rattle.sheet.specs.declared.verdict.Verdict.{Verdict}
-use Rattle.sheet.specs.declared.verdict.Verdict.TheVariants.{Sheet, Length, Format, Counts, Kind, Tree, Range, Encoding}
+use Rattle.sheet.specs.declared.verdict.SheetError.{SheetError}
 use Rattle.sheet.proofs.Acceptance.{accepts}
 use Rattle.sheet.proofs.FirstWrong.{all_right}
 use Rattle.sheet.proofs.NumberLaws.{Low, verdict_low}
@@ -66,35 +65,30 @@ module _ {s : Bytes} {l : Layout} (accepted : Accepted s l) (width : l.width ≡
 
 -- ---- the answer to a sheet
 
-refused_fits : (v : Verdict) → Low v → NumbersFit (numbers (Refused v))
-refused_fits v h =
+refused_fits : (e : SheetError) → Low (Err e) → NumbersFit (numbers (Err (Refused e)))
+refused_fits e h =
     record { number = omega (arith, h.number); second = omega (arith, h.second); visits = omega (arith, h.visits); length = omega (arith, h.length) }
 
-by_verdict : (P : Extraction → Type 0) (ask : Layout → Extraction) (v : Verdict) → ((l : Layout) → v ≡ Sheet l → P (ask l)) → P (Refused v) → P (on_sheet ask Refused v)
-by_verdict P ask (Sheet l) f g = f l refl
-by_verdict P ask (Length n) f g = g
-by_verdict P ask (Format line) f g = g
-by_verdict P ask Counts f g = g
-by_verdict P ask (Kind line) f g = g
-by_verdict P ask (Tree line) f g = g
-by_verdict P ask (Range line) f g = g
-by_verdict P ask (Encoding line) f g = g
+by_verdict : (P : Result Extracted ExtractError → Type 0) (ask : Layout → Result Extracted ExtractError) (v : Result Layout SheetError)
+    → ((l : Layout) → v ≡ Ok l → P (ask l)) → ((e : SheetError) → v ≡ Err e → P (Err (Refused e))) → P (on_sheet ask (λ e. Err (Refused e)) v)
+by_verdict P ask (Ok l) f g = f l refl
+by_verdict P ask (Err e) f g = g e refl
 
 sheet_fits : (s : Bytes) (o : ExtractOptions) → length s ≤ room → NumbersFit (numbers (extraction_of s o room room))
 unfolding extract.extraction_of
 sheet_fits s o short =
     by_verdict (λ x. NumbersFit (numbers x)) (λ l. extraction (left l) (page_of s l) o room room) (verdict s)
     (λ l e. let a = accepts (lit≤ tt) e in bounded_fits a.1 a.0 short (extraction_bounded a.1 (left l) o room room))
-    (refused_fits (verdict s) (verdict_low s))
+    (λ e v. refused_fits e (subst Low v (verdict_low s)))
   where
     left : Layout → ℕ → Bool
     left l = filters (page_of s l).node (page_of s l).depths (page_of s l).root o
 
 -- ---- the line
 
-behind_fits : (line : OptionLine) (s : Bytes) → length s ≤ room → NumbersFit (answer_behind line s)
-behind_fits (Options o) s h = sheet_fits s o h
-behind_fits Wrong s h = record { number = omega arith; second = omega arith; visits = omega arith; length = omega arith }
+behind_fits : (line : Option ExtractOptions) (s : Bytes) → length s ≤ room → NumbersFit (answer_behind line s)
+behind_fits (Some o) s h = sheet_fits s o h
+behind_fits None s h = record { number = omega arith; second = omega arith; visits = omega arith; length = omega arith }
 
 answer_fits : (input : Bytes) → NumbersFit (answer_to input)
 unfolding answer_to
@@ -106,10 +100,10 @@ answer_fits input =
 abbrev BeginsWith : Answer → Bytes → Type 0
 BeginsWith a s = (rest : Bytes) × (s ≡ answer_line a ++ rest)
 
-behind_begins : (line : OptionLine) (s : Bytes) → BeginsWith (answer_behind line s) (behind_line line s)
+behind_begins : (line : Option ExtractOptions) (s : Bytes) → BeginsWith (answer_behind line s) (behind_line line s)
 unfolding shown
-behind_begins (Options o) s = (text_in (extraction_of s o room room) (out_after_of s o zeros zeros), refl)
-behind_begins Wrong s = ([], sym (append-nil _))
+behind_begins (Some o) s = (text_in (extraction_of s o room room) (out_after_of s o zeros zeros), refl)
+behind_begins None s = ([], sym (append-nil _))
 
 printed_begins : (input : Bytes) → BeginsWith (answer_to input) (printed input)
 unfolding printed answer_to

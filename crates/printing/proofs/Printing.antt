@@ -1,4 +1,5 @@
 -- What is printed, case by case.
+use Rattle.std.specs.Prelude.{Result, Ok, Option, Some, None}
 use mathlib.Core.Path.{◌≡◌, sym, ap, ap₂, ◌∙◌}
 use mathlib.Core.List.{◌++◌}
 use Prim.Native.Nat.{ℕ, ◌+◌, ◌-◌, ◌≤◌, ◌<◌}
@@ -14,13 +15,11 @@ use Rattle.common.proofs.Choice.{by_test}
 use Rattle.common.proofs.Parts.{part_from}
 use Rattle.common.proofs.Puts.{puts_length, puts_padded}
 use Rattle.html2text.specs.Extract.{numbers}
-use Rattle.html2text.specs.declared.Extraction.{Extraction}
-use Rattle.html2text.specs.declared.Extraction.TheVariants.{Text}
+use Rattle.html2text.specs.declared.ExtractError.{ExtractError}
+use Rattle.html2text.specs.declared.Extracted.{Extracted}
 use Rattle.options.specs.Line.{line_length, line_of, line_right}
 use Rattle.options.specs.Line as option_line
 use Rattle.options.specs.declared.ExtractOptions.{ExtractOptions}
-use Rattle.options.specs.declared.line.OptionLine.{OptionLine}
-use Rattle.options.specs.declared.line.OptionLine.TheVariants.{Options, Wrong}
 use Rattle.options.proofs.LineLaws.{line_long}
 use Rattle.reader.specs.Extraction.{extraction_of, out_after_of}
 use Rattle.reader.proofs.DemandsLaws.{demand_1}
@@ -28,11 +27,11 @@ use Rattle.printing.proofs.Showing.{puts_as, answer_length, shown_length}
 use Rattle.printing.specs.Printed.{room, zeros, answer_line, TextFits, shown, answered, printed}
 
 -- the text that an extraction gives lies in the buffer, since the buffer is as long as before
-text_fits : (s : Bytes) (o : ExtractOptions) (out work : Bytes) {e : Extraction} {after : Bytes}
+text_fits : (s : Bytes) (o : ExtractOptions) (out work : Bytes) {e : Result Extracted ExtractError} {after : Bytes}
     → e ≡ extraction_of s o (length out) (length work) → after ≡ out_after_of s o out work → length after ≡ length out → TextFits e after
-text_fits s o out work {e} {after} a b same visits len t =
-    let known = (demand_1 s o out work).text (ap (λ (x : Extraction). (numbers x).number) (sym a ∙ t)) in
-    let long = ap (λ (x : Extraction). (numbers x).length) (sym a ∙ t) in
+text_fits s o out work {e} {after} a b same text t =
+    let known = (demand_1 s o out work).text (ap (λ (x : Result Extracted ExtractError). (numbers x).number) (sym a ∙ t)) in
+    let long = ap (λ (x : Result Extracted ExtractError). (numbers x).length) (sym a ∙ t) in
     omega (arith, same, ap length (b ∙ known.2), length-append known.0 (replicate (length out - length known.0) 0), length-replicate {A = ℕ} (length out - length known.0) 0, sym long ∙ known.1)
 
 -- what is stored, and that the buffer is not left
@@ -41,7 +40,7 @@ Stored before s to r = Puts before 0 s to r × (r ≤ length to)
 
 -- ---- by buffers of zeros
 
-module _ (s : Bytes) (o : ExtractOptions) {out work after : Bytes} {e : Extraction} (z : (out ≡ zeros) × (work ≡ zeros)) (a : e ≡ extraction_of s o (length out) (length work)) (b : after ≡ out_after_of s o out work) where
+module _ (s : Bytes) (o : ExtractOptions) {out work after : Bytes} {e : Result Extracted ExtractError} (z : (out ≡ zeros) × (work ≡ zeros)) (a : e ≡ extraction_of s o (length out) (length work)) (b : after ≡ out_after_of s o out work) where
   pub sheet_room : {n : ℕ} → length after ≡ length out → 33 + room + 1 ≤ n → TextFits e after × (33 + length after + 1 ≤ n)
   sheet_room same h = (text_fits s o out work a b same, omega (arith, same, ap length z.0, length-replicate {A = ℕ} room 0, h))
 
@@ -55,10 +54,10 @@ module _ (s : Bytes) (o : ExtractOptions) {out work after : Bytes} {e : Extracti
 -- ---- cases
 
 -- an option line that is right is there whole
-pub line_there : (s : Bytes) {o : ExtractOptions} → line_of s ≡ Options o → line_length ≤ length s
+pub line_there : (s : Bytes) {o : ExtractOptions} → line_of s ≡ Some o → line_length ≤ length s
 line_there s {o} e =
     by_test (line_right s) (line_long s)
-    (λ f. let w : Wrong ≡ Options o = rw f at e in let none : 33 ≡ 0 = ap (λ (l : OptionLine). (option_line.numbers l).number) w in absurd (omega (arith, none)))
+    (λ f. let w : None ≡ Some o = rw f at e in let none : 33 ≡ 0 = ap (λ (l : Option ExtractOptions). (option_line.numbers l).number) w in absurd (omega (arith, none)))
 
 -- a line of numbers
 numbers_only : {before s to : Bytes} {r : ℕ} (a : Answer) → 33 + room + 1 ≤ length before → Puts before 0 (answer_line a) to r → answer_line a ≡ s → Stored before s to r
@@ -69,12 +68,12 @@ module _ (input : Bytes) {before to : Bytes} {r : ℕ} where
   unfolding printed
   printed_long a f h e p = rw (lt-ltb room (length input) h) (numbers_only a f p (ap answer_line e))
 
-  module _ (h : length input ≤ room) {l : OptionLine} (line : l ≡ line_of input) where
-    pub printed_wrong : (a : Answer) → 33 + room + 1 ≤ length before → l ≡ Wrong → a ≡ option_line.numbers l → Puts before 0 (answer_line a) to r → Stored before (printed input) to r
+  module _ (h : length input ≤ room) {l : Option ExtractOptions} (line : l ≡ line_of input) where
+    pub printed_wrong : (a : Answer) → 33 + room + 1 ≤ length before → l ≡ None → a ≡ option_line.numbers l → Puts before 0 (answer_line a) to r → Stored before (printed input) to r
     unfolding printed
     printed_wrong a f w e p = rw (le-ltb room (length input) h, sym line ∙ w) (numbers_only a f p (ap answer_line (e ∙ ap option_line.numbers w)))
 
-    pub printed_sheet : {o : ExtractOptions} → l ≡ Options o → Puts before 0 (answered (take (length input - line_length) (drop line_length input)) o) to r → Puts before 0 (printed input) to r
+    pub printed_sheet : {o : ExtractOptions} → l ≡ Some o → Puts before 0 (answered (take (length input - line_length) (drop line_length input)) o) to r → Puts before 0 (printed input) to r
     unfolding printed
     printed_sheet {o} w p =
         rw (le-ltb room (length input) h, sym line ∙ w) (puts_as p (ap (λ (s : Bytes). answered s o) (part_from input line_length)))

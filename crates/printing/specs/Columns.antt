@@ -1,9 +1,8 @@
 -- Every number of the line that is printed has room in its columns, so that the line has 33 bytes and reads back.
-use Rattle.std.specs.Prelude.{◌≡◌, ℕ, ◌<◌, length, take}
+use Rattle.std.specs.Prelude.{◌≡◌, ℕ, ◌<◌, length, take, Some}
 use Rattle.common.specs.Answer.{Answer}
 use Rattle.common.specs.Bytes.{Bytes}
 use Rattle.sheet.specs.Lines.{short_line_of}
-use Rattle.sheet.specs.declared.line.Four
 use Rattle.sheet.specs.declared.line.Quad.{Quad}
 use Rattle.printing.specs.Printed.{answer_line, answer_to, printed}
 
@@ -23,7 +22,7 @@ pub record LineFits (input : Bytes) : Type 0 where
   pub fits : NumbersFit (answer_to input)
   pub long : length (answer_line (answer_to input)) ≡ 33
   pub first : take 33 (printed input) ≡ answer_line (answer_to input)
-  pub reads_back : short_line_of 8 (printed input) 0 ≡ Four.TheVariants.Numbers (quad_of (answer_to input))
+  pub reads_back : short_line_of 8 (printed input) 0 ≡ Some (quad_of (answer_to input))
 
 -- what is to be shown
 abbrev pub LinesFit : Type 0

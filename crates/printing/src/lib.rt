@@ -9,10 +9,10 @@ ghost use Rattle.common.specs.Puts.{Puts};
 ghost use Rattle.printing.specs.Printed.{answered, answer_line, printed, room, shown, TextFits, zeros};
 
 use common::Answer;
-use html2text::Extraction;
-use numbers::{of_extraction, of_line};
+use html2text::{ExtractError, Extracted};
+use numbers::ToAnswer;
 use options::ExtractOptions;
-use options::line::{LENGTH, OptionLine, read_line};
+use options::line::{LENGTH, read_line};
 use reader::extract;
 use sheet::line::Quad;
 use sheet::write::put_short_line;
@@ -51,15 +51,15 @@ fn put_text(to: &mut [u8], at: usize, text: &[u8]) -> usize
 }
 
 // The numbers of an extraction, and its text.
-fn put_extraction(to: &mut [u8], e: Extraction, out: &[u8]) -> usize
+fn put_extraction(to: &mut [u8], e: Result<Extracted, ExtractError>, out: &[u8]) -> usize
     requires { TextFits e out.now × (33 + length out.now + 1 ≤ length to.old) }
     ensures { Puts to.old 0 (shown e out.now) to.new result }
 {
-    let at = put_answer(to, of_extraction(e));
-    let Extraction::Text { visits: _, len } = e else {
-        return at;
-    };
-    put_text(to, at, &out[..len])
+    let at = put_answer(to, e.to_answer());
+    match e {
+        Ok(text) => put_text(to, at, &out[..text.len]),
+        Err(_) => at,
+    }
 }
 
 // The answer to a sheet, by buffers of zeros.
@@ -98,8 +98,8 @@ fn put_printed(to: &mut [u8], input: &[u8]) -> usize
         return put_answer(to, Answer::refused(Answer::INPUT_TOO_LONG, 0));
     }
     let line = read_line(input);
-    let OptionLine::Options(o) = line else {
-        return put_answer(to, of_line(line));
+    let Some(o) = line else {
+        return put_answer(to, line.to_answer());
     };
     put_answered(to, &input[LENGTH..], o)
 }

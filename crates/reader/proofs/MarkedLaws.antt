@@ -1,4 +1,5 @@
 -- A sheet before and after it is marked is alike but for further marks.
+use Rattle.std.specs.Prelude.{Ok}
 use mathlib.Core.Path.{◌≡◌, sym, ◌∙◌}
 use mathlib.Core.Bool.{Bool}
 use mathlib.Core.Logic.{inr}
@@ -11,13 +12,12 @@ use Rattle.marking.proofs.MarkedSheet.{sheet_marked}
 use Rattle.options.specs.declared.ExtractOptions.{ExtractOptions}
 use Rattle.sheet.specs.Verdict.{verdict}
 use Rattle.sheet.specs.declared.line.Layout.{Layout}
-use Rattle.sheet.specs.declared.verdict.Verdict.TheVariants.{Sheet}
 use Rattle.tree.specs.AlikeSheets.{AlikeButSkips}
 use Rattle.tree.specs.Page.{page_of}
 use Rattle.reader.specs.Marked.{after, MarkedTexts}
 use Rattle.reader.proofs.DemandsLaws.{demand_3}
 
-module _ (s : Bytes) (l : Layout) (by : ExtractOptions) (noscript : Bool) (e : verdict s ≡ Sheet l) where
+module _ (s : Bytes) (l : Layout) (by : ExtractOptions) (noscript : Bool) (e : verdict s ≡ Ok l) where
   m : SheetMarked s l by noscript
   m = sheet_marked s l by noscript e
 

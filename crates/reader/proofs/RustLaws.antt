@@ -1,8 +1,8 @@
 -- The Rust's loop hides what the filters leave out: the depth that it counts is the row's less that of the body.
-use mathlib.Core.Path.{◌≡◌, refl, sym, ap, ap₂, ◌∙◌}
+use Rattle.std.specs.Prelude.{Option, None, Some}
+use mathlib.Core.Path.{◌≡◌, refl, ap, ap₂}
 use mathlib.Core.Bool.{Bool, false, ◌&&◌, ◌||◌, not}
 use mathlib.Core.List.{List, [], ◌∷◌}
-use mathlib.Core.Option.{Option, none, some}
 use Prim.Native.Nat.{ℕ, zero, suc, ◌+◌, ◌-◌}
 use native.Mathlib.Nat.{zero-add}
 use native.Mathlib.Omega.{arith}
@@ -13,7 +13,7 @@ use Rattle.filters.specs.Footer.{is_body, body_from}
 use Rattle.html2text.specs.Bounds.{Going}
 use Rattle.html2text.specs.Collect.{Entry}
 use Rattle.html2text.specs.Extract.{hidden, serialized}
-use Rattle.html2text.specs.Serialize.{State, step}
+use Rattle.html2text.specs.Serialize.{step}
 use Rattle.html2text.specs.Theorems.{HidesRows}
 use Rattle.html2text.proofs.GoingLaws.{going_taken}
 use Rattle.options.specs.Options.{with_icons, with_missing_alt}
@@ -36,8 +36,8 @@ module _ (p : Page) where
       by_test (is_body (p.node i)) (λ e. rw (e, base_from, body_from) (zero-add (get_or p.depths i 0))) (go (parent_of p.depths i) refl (base_steps above))
     where
       go : (q : Option ℕ) → parent_of p.depths i ≡ q → ((j : ℕ) → Steps above j) → is_body (p.node i) ≡ false → Steps (suc above) i
-      go none u more e = rw (e, u, base_from, body_from) (zero-add (get_or p.depths i 0))
-      go (some q) u more e =
+      go None u more e = rw (e, u, base_from, body_from) (zero-add (get_or p.depths i 0))
+      go (Some q) u more e =
           rw (e, u, base_from, body_from) (omega (arith, (above_found p.depths (get_or p.depths i 0) i q u).1, more q))
 
   pub hides_rows : (o : ExtractOptions) → HidesRows p (rust_hidden p o) (hidden (filters p.node p.depths p.root o) p o)

@@ -1,6 +1,5 @@
 -- The three demands, over what `extract` promises (src/lib.rt): the answer `extraction_of`, and `out_after_of` and `work_after_of`.
-use Rattle.std.specs.Prelude.{◌≡◌, Bool, true, false, ◌||◌, List, [], ◌∷◌, ℕ, ◌+◌, ◌*◌, eqb, length}
-use Rattle.std.proofs.Math.Option.{some}
+use Rattle.std.specs.Prelude.{◌≡◌, Bool, true, false, ◌||◌, List, [], ◌∷◌, ℕ, ◌+◌, ◌*◌, eqb, length, Some, Result, Ok}
 use Rattle.common.specs.Answer.{Answer}
 use Rattle.common.specs.Bytes.{Bytes, padded}
 use Rattle.html2text.specs.Demand3.{Gives}
@@ -8,11 +7,11 @@ use Rattle.html2text.specs.Demand3 as html2text
 use Rattle.html2text.specs.Encoded.{TextIsUtf8}
 use Rattle.html2text.specs.Extract.{concluded, work_need_of, serialized, numbers}
 use Rattle.html2text.specs.Walk.{loop_from}
-use Rattle.html2text.specs.declared.Extraction.{Extraction}
+use Rattle.html2text.specs.declared.ExtractError.{ExtractError}
+use Rattle.html2text.specs.declared.Extracted.{Extracted}
 use Rattle.options.specs.declared.ExtractOptions.{ExtractOptions}
 use Rattle.sheet.specs.Verdict.{verdict}
 use Rattle.sheet.specs.declared.line.Layout.{Layout}
-use Rattle.sheet.specs.declared.verdict.Verdict.TheVariants.{Sheet}
 use Rattle.tree.specs.Page.{Page, page_of}
 use Rattle.tree.specs.Theorems.{SheetIsTree}
 use Rattle.reader.specs.Extraction.{filters, extraction_of, out_after_of, work_after_of}
@@ -48,7 +47,7 @@ Demand1 = (s : Bytes) (o : ExtractOptions) (out work : Bytes) → ComesBack s o 
 -- ---- 2: "For each accepted sheet, with our added options at 0, the text equals that of the Rust walk on the same tree, root, marks and options."
 
 -- our answer by the Rust's loop: its entries and its passes, with our numbers 21, 22, 31 and 32
-abbrev pub loop_extraction : Page → ExtractOptions → ℕ → ℕ → Extraction
+abbrev pub loop_extraction : Page → ExtractOptions → ℕ → ℕ → Result Extracted ExtractError
 loop_extraction p o out work =
     concluded (work_need_of p o (rust_loop p o).nodes) (rust_loop p o).passes (serialized o (rust_loop p o).nodes) out work
 
@@ -59,11 +58,11 @@ pub record AsTheRust (s : Bytes) (l : Layout) (o : ExtractOptions) : Type 0 wher
   pub answer : (out work : ℕ) → extraction_of s o out work ≡ loop_extraction (page_of s l) o out work
   -- `loop` makes 2·N passes at most: the Rust's has ended there, more passes change nothing
   pub ends : (k : ℕ)
-      → loop_from (page_of s l) (rust_hidden (page_of s l) o) o (2 * length (page_of s l).depths + k) (some l.root) 0 false (record { nodes = []; passes = 0 })
+      → loop_from (page_of s l) (rust_hidden (page_of s l) o) o (2 * length (page_of s l).depths + k) (Some l.root) 0 false (record { nodes = []; passes = 0 })
       ≡ rust_loop (page_of s l) o
 
 pub record Demand2 : Type 0 where
-  pub rust : (s : Bytes) (l : Layout) (o : ExtractOptions) → verdict s ≡ Sheet l → AsTheRust s l o
+  pub rust : (s : Bytes) (l : Layout) (o : ExtractOptions) → verdict s ≡ Ok l → AsTheRust s l o
   -- "Tree order, text content and UTF-8 are proved against WHATWG DOM and RFC 3629": of the page of every accepted sheet
   pub standards : SheetIsTree
   -- and the text that is given is UTF-8

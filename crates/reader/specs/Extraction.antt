@@ -1,10 +1,11 @@
 -- The answer to a byte string and options, and the buffers after it, with the filters of document 01, module 5.
-use Rattle.std.specs.Prelude.{Bool, false, List, ℕ}
+use Rattle.std.specs.Prelude.{Bool, false, List, ℕ, Result}
 use Rattle.common.specs.Bytes.{Bytes}
 use Rattle.filters.specs.Filters.{filtered}
 use Rattle.html2text.specs.Escapes as escapes
 use Rattle.html2text.specs.Extract as extract
-use Rattle.html2text.specs.declared.Extraction.{Extraction}
+use Rattle.html2text.specs.declared.ExtractError.{ExtractError}
+use Rattle.html2text.specs.declared.Extracted.{Extracted}
 use Rattle.options.specs.declared.ExtractOptions.{ExtractOptions}
 use Rattle.tree.specs.Node.{Node}
 
@@ -13,7 +14,7 @@ abbrev pub filters : (ℕ → Node) → List ℕ → ℕ → ExtractOptions → 
 filters node_of depths root o i = filtered (record { depths = depths; node = node_of; marked = λ j. false; root = root }) o i
 
 -- the answer, by the lengths of out and work
-abbrev pub extraction_of : Bytes → ExtractOptions → ℕ → ℕ → Extraction
+abbrev pub extraction_of : Bytes → ExtractOptions → ℕ → ℕ → Result Extracted ExtractError
 extraction_of s o out work = extract.extraction_of filters s o out work
 
 abbrev pub out_after_of : Bytes → ExtractOptions → Bytes → Bytes → Bytes

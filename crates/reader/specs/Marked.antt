@@ -1,5 +1,5 @@
 -- The texts of a sheet before and after it is marked by name: the rule on further marks, as demand 3 has it.
-use Rattle.std.specs.Prelude.{◌≡◌, Bool}
+use Rattle.std.specs.Prelude.{◌≡◌, Bool, Ok}
 use Rattle.common.specs.Bytes.{Bytes}
 use Rattle.html2text.specs.Demand.{CellsRight, TextsArePieces}
 use Rattle.html2text.specs.Demand3.{AlikeButMarks, Gives}
@@ -9,7 +9,6 @@ use Rattle.options.specs.declared.ExtractOptions.{ExtractOptions}
 use Rattle.options.specs.declared.Formatting.TheVariants.{Off}
 use Rattle.sheet.specs.Verdict.{verdict}
 use Rattle.sheet.specs.declared.line.Layout.{Layout}
-use Rattle.sheet.specs.declared.verdict.Verdict.TheVariants.{Sheet}
 use Rattle.tree.specs.Page.{page_of}
 use Rattle.reader.specs.Extraction.{filters}
 
@@ -29,4 +28,4 @@ module _ (s : Bytes) (l : Layout) (by : ExtractOptions) (noscript : Bool) where
         → TextsArePieces (filtered_by filters) o (page_of s l) (page_of after l) t₁ t₂
 
 abbrev pub MarkedTexts : Type 0
-MarkedTexts = (s : Bytes) (l : Layout) (by : ExtractOptions) (noscript : Bool) → verdict s ≡ Sheet l → TextsOfMarked s l by noscript
+MarkedTexts = (s : Bytes) (l : Layout) (by : ExtractOptions) (noscript : Bool) → verdict s ≡ Ok l → TextsOfMarked s l by noscript

@@ -1,6 +1,6 @@
 -- The pages of document 01, "Pages and their texts", that are marked to be proved, and three of document 02, CR 4: from sheet bytes to
 -- text.
-use Rattle.std.specs.Prelude.{◌≡◌, Bool, true, false, ◌&&◌, List, [], ◌∷◌, ◌++◌, ℕ, zero, suc, ◌+◌, eqb, length, take, replicate}
+use Rattle.std.specs.Prelude.{◌≡◌, Bool, true, false, ◌&&◌, List, [], ◌∷◌, ◌++◌, ℕ, ◌+◌, eqb, length, take, replicate}
 use Prim.Native.String.{String}
 use Rattle.common.specs.Bytes.{Bytes, codes, same}
 use Rattle.html2text.specs.Extract.{numbers}

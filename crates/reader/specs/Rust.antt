@@ -1,8 +1,7 @@
 -- What the Rust gives: `extract_plain_text` of html2text.rs from the point where root and blacklist are known, by `collect`, `serialize` and
 -- `is_main_content` as html2text/specs and filters/specs have them. It has none of our limits and none of our added options.
-use Rattle.std.specs.Prelude.{Bool, ◌&&◌, ◌||◌, not, List, [], ◌∷◌, get_or}
+use Rattle.std.specs.Prelude.{Bool, ◌&&◌, ◌||◌, not, List, [], ◌∷◌, get_or, None, Some}
 use Rattle.std.proofs.Math.Bool.{true, false}
-use Rattle.std.proofs.Math.Option.{none, some}
 use Prim.Native.Nat.{ℕ, zero, suc, ◌+◌}
 use Rattle.common.specs.Bytes.{Bytes}
 use Rattle.filters.specs.Filters.{is_main_content}
@@ -22,7 +21,7 @@ module _ (p : Page) where
   unfolding is_body
   base_from zero i = 0
   base_from (suc above) i =
-      elim (is_body (p.node i)) [ true ↦ 0 | false ↦ elim (parent_of p.depths i) [ none ↦ 0 | some parent ↦ suc (base_from above parent) ] ]
+      elim (is_body (p.node i)) [ true ↦ 0 | false ↦ elim (parent_of p.depths i) [ None ↦ 0 | Some parent ↦ suc (base_from above parent) ] ]
 
   -- `base_depth`; a row at depth d has d rows above it
   abbrev pub base_depth : ℕ

@@ -19,10 +19,10 @@ fn put_item(w: Writer, end: bool, bare: bool, depth: usize, out: &mut [u8], writ
 {
     if end {
         let q = strip_if(w, bare);
-        return writer::put(q, b"</li>\n", out, write);
+        return q.put(b"</li>\n", out, write);
     }
-    let q = writer::pad(w, 32, depth * 2, out, write);
-    writer::put(q, b"<li>", out, write)
+    let q = w.pad(32, depth * 2, out, write);
+    q.put(b"<li>", out, write)
 }
 
 fn html_item(
@@ -52,14 +52,14 @@ fn html_pre(s: Serializer, n: ExtractNode, out: &mut [u8], write: bool) -> Seria
 {
     if n.tag == tags::PRE {
         if n.end {
-            let w = writer::put(s.writer, b"</pre>", out, write);
+            let w = s.writer.put(b"</pre>", out, write);
             let mut r = s;
             r.writer = w;
             r.margins = 0;
             return r;
         }
         let a = margin(s, collapses(false, n), false, out, write);
-        let w = writer::put(a.writer, b"<pre>", out, write);
+        let w = a.writer.put(b"<pre>", out, write);
         let mut r = a;
         r.writer = w;
         r.margins = 0;
@@ -73,7 +73,7 @@ fn html_br(s: Serializer, n: ExtractNode, out: &mut [u8], write: bool) -> Serial
     ensures { WorksOut write s out.old result out.new (html_br n) }
 {
     if n.tag == tags::BR {
-        let w = writer::put(s.writer, b"<br>", out, write);
+        let w = s.writer.put(b"<br>", out, write);
         let mut r = s;
         r.writer = w;
         return r;
@@ -129,7 +129,7 @@ fn tag_margins(n: ExtractNode, block: bool, margins: usize) -> usize
 {
     let size = one(block) + one(n.big_block);
     if n.collapse_margins {
-        return writer::greater(margins, size);
+        return margins.max(size);
     }
     margins + size
 }
@@ -177,7 +177,7 @@ fn indent_tag(w: Writer, bullets: bool, depth: usize, out: &mut [u8], write: boo
     ensures { Does write w out.old result out.new (tag_indent bullets depth) }
 {
     if bullets {
-        return writer::pad(w, 32, depth * 2, out, write);
+        return w.pad(32, depth * 2, out, write);
     }
     w
 }
@@ -187,9 +187,9 @@ fn begin_tag(w: Writer, end: bool, out: &mut [u8], write: bool) -> Writer
     ensures { Does write w out.old result out.new (push_all (cond end (codes "</") (codes "<"))) }
 {
     if end {
-        return writer::put(w, b"</", out, write);
+        return w.put(b"</", out, write);
     }
-    writer::put(w, b"<", out, write)
+    w.put(b"<", out, write)
 }
 
 // The name of a heading, of a paragraph or of a list.
@@ -199,16 +199,16 @@ fn put_name(w: Writer, tag: u8, out: &mut [u8], write: bool) -> Writer
     ensures { Does write w out.old result out.new (push_all (name_of tag)) }
 {
     if tag == tags::UL {
-        return writer::put(w, b"ul", out, write);
+        return w.put(b"ul", out, write);
     }
     if tag == tags::OL {
-        return writer::put(w, b"ol", out, write);
+        return w.put(b"ol", out, write);
     }
     if tag == tags::P {
-        return writer::put(w, b"p", out, write);
+        return w.put(b"p", out, write);
     }
-    let q = writer::push(w, 104, out, write);
-    writer::push(q, 49 + (tag - tags::H1), out, write)
+    let q = w.push(104, out, write);
+    q.push(49 + (tag - tags::H1), out, write)
 }
 
 fn end_tag(w: Writer, line: bool, out: &mut [u8], write: bool) -> Writer
@@ -216,9 +216,9 @@ fn end_tag(w: Writer, line: bool, out: &mut [u8], write: bool) -> Writer
     ensures { Does write w out.old result out.new (tag_end line) }
 {
     if line {
-        return writer::put(w, b">\n", out, write);
+        return w.put(b">\n", out, write);
     }
-    writer::put(w, b">", out, write)
+    w.put(b">", out, write)
 }
 
 // A tag, with its indentation.
@@ -280,14 +280,7 @@ fn block_after_marks(bullets: bool, n: ExtractNode) -> bool
 pub fn block_after_tag(bullets: bool, n: ExtractNode, uncollapsed: usize) -> bool
     ensures { result ≡ block_after_tag bullets n uncollapsed }
 {
-    let block = block_after_marks(bullets, n);
-    if wants_tag(bullets, n) {
-        if opens_tag(n, uncollapsed) {
-            return false;
-        }
-        return block;
-    }
-    block
+    block_after_marks(bullets, n) && !(wants_tag(bullets, n) && opens_tag(n, uncollapsed))
 }
 
 // The tag and the margin.

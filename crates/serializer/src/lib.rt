@@ -53,11 +53,7 @@ impl Serializer {
         ensures { result ≡ no_serializer }
     {
         Serializer {
-            writer: Writer {
-                len: 0,
-                kept: 0,
-                peak: 0,
-            },
+            writer: Writer::START,
             prefix: 0,
             bullet: 0,
             depth: 0,
@@ -72,20 +68,14 @@ impl Serializer {
 fn one(b: bool) -> usize
     ensures { result ≡ one b }
 {
-    if b {
-        return 1;
-    }
-    0
+    usize::from(b)
 }
 
 // `x.saturating_sub(1)`
 pub fn less_one(x: usize) -> usize
     ensures { result ≡ x - 1 }
 {
-    if x == 0 {
-        return 0;
-    }
-    x - 1
+    x.saturating_sub(1)
 }
 
 // `matches!(n.tag.as_str(), "ul" | "ol")`

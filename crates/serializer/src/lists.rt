@@ -11,10 +11,7 @@ use html2text::ExtractNode;
 fn first_number(tag: u8) -> usize
     ensures { result ≡ one (is_ol tag) }
 {
-    if tag == tags::OL {
-        return 1;
-    }
-    0
+    one(tag == tags::OL)
 }
 
 fn prefixed(s: Serializer, prefix: usize, bullet: bool) -> Serializer
@@ -101,10 +98,7 @@ fn last_number(numbering: &[usize], depth: usize) -> usize
     requires { depth ≤ length numbering.now }
     ensures { result ≡ last_number numbering.now depth }
 {
-    if depth == 0 {
-        return 0;
-    }
-    numbering[depth - 1]
+    if depth == 0 { 0 } else { numbering[depth - 1] }
 }
 
 // An item's prefix, formatting Basic.

@@ -21,7 +21,7 @@ pub fn strip_if(w: Writer, bare: bool) -> Writer
     ensures { result ≡ cond bare (trimmed w) w }
 {
     if bare {
-        return writer::trim_end(w);
+        return w.trim_end();
     }
     w
 }
@@ -35,9 +35,9 @@ fn separate(w: Writer, off: bool, size: usize, out: &mut [u8], write: bool) -> W
         return w;
     }
     if off {
-        return writer::push(w, 32, out, write);
+        return w.push(32, out, write);
     }
-    writer::pad(w, 10, size, out, write)
+    w.pad(10, size, out, write)
 }
 
 fn put_margin(w: Writer, bare: bool, off: bool, size: usize, out: &mut [u8], write: bool) -> Writer
@@ -85,7 +85,7 @@ pub fn block_margin(s: Serializer, block: bool, n: ExtractNode) -> Serializer
     if block {
         let mut r = s;
         if n.collapse_margins {
-            r.margins = writer::greater(s.margins, size(is_big(n)));
+            r.margins = s.margins.max(size(is_big(n)));
             return r;
         }
         r.margins = s.margins + size(n.big_block);

@@ -41,9 +41,9 @@ fn between(w: Writer, off: bool, out: &mut [u8], write: bool) -> Writer
         if w.kept < w.len {
             return w;
         }
-        return writer::push(w, 32, out, write);
+        return w.push(32, out, write);
     }
-    writer::put(w, b"\t\t", out, write)
+    w.put(b"\t\t", out, write)
 }
 
 // A cell in the open row.

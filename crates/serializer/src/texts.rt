@@ -15,7 +15,7 @@ use crate::{Progress, Serializer};
 use html2text::{ExtractNode, Showing};
 use options::Formatting;
 use writer::Writer;
-use writer::texts::{First, first_of, put_text};
+use writer::texts::{First, first_of};
 
 // `n.block || out.chars().last().is_some_and(is_space)`
 fn trims(block: bool, w: Writer) -> bool
@@ -34,13 +34,7 @@ fn is_indented(basic: bool, depth: usize) -> bool
 fn without_bullet(bullets: bool, bullet: usize) -> usize
     ensures { result ≡ one (bullets && eqb bullet 0) }
 {
-    if bullets {
-        if bullet == 0 {
-            return 1;
-        }
-        return 0;
-    }
-    0
+    usize::from(bullets && bullet == 0)
 }
 
 // `indent`
@@ -50,7 +44,7 @@ fn indent(s: Serializer, basic: bool, bullets: bool, out: &mut [u8], write: bool
 {
     if is_indented(basic, s.depth) {
         let more = without_bullet(bullets, s.bullet);
-        let w = writer::pad(s.writer, 32, (s.depth + more) * 2, out, write);
+        let w = s.writer.pad(32, (s.depth + more) * 2, out, write);
         let mut r = s;
         r.writer = w;
         r.bullet = 0;
@@ -67,10 +61,10 @@ fn put_prefix(w: Writer, prefix: usize, out: &mut [u8], write: bool) -> Writer
         return w;
     }
     if prefix == 1 {
-        return writer::put(w, b"\xE2\x80\xA2 ", out, write);
+        return w.put(b"\xE2\x80\xA2 ", out, write);
     }
-    let q = writer::put_number(w, prefix - 1, out, write);
-    writer::put(q, b". ", out, write)
+    let q = w.put_number(prefix - 1, out, write);
+    q.put(b". ", out, write)
 }
 
 // Indentation and prefix.
@@ -125,16 +119,7 @@ fn lead_in(
 fn times_of(escapes: bool, escaped: bool) -> u8
     ensures { result ≡ times_of escapes escaped }
 {
-    if escapes {
-        if escaped {
-            return 2;
-        }
-        return 1;
-    }
-    if escaped {
-        return 1;
-    }
-    0
+    u8::from(escapes) + u8::from(escaped)
 }
 
 // What was read of a text, if it is escaped.
@@ -171,7 +156,7 @@ fn pass_by(p: Progress, piece: &[u8], escaped: bool, read: usize, write: bool) -
     ensures { PassedBy write p result (escaped_if escaped piece.now) read }
 {
     let len = longer(p.len, piece, escaped, write);
-    let need = writer::greater(p.need, len);
+    let need = p.need.max(len);
     let mut q = p;
     q.len = len;
     q.need = need;
@@ -209,10 +194,12 @@ fn show_from(
 {
     let w = p.showing;
     let len = longer(p.len, piece, escaped, write);
-    let need = writer::greater(p.need, len);
+    let need = p.need.max(len);
     let a = lead_in(f, bullets, p.serializer, w, out, write);
     let times = times_of(w.escapes, escaped);
-    let q = put_text(a.writer, piece, first, w.squeeze, times, out, write);
+    let q = a
+        .writer
+        .put_text(piece, first, w.squeeze, times, out, write);
     let writer = q.writer;
     let mut serializer = a;
     serializer.writer = writer;

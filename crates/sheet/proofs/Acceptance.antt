@@ -1,9 +1,8 @@
 -- What the verdict accepts is a sheet in document 01's sense.
+use Rattle.std.specs.Prelude.{Option, None, Some, Result, Ok, Err}
 use mathlib.Core.Path.{◌≡◌, refl, sym, ap, ◌∙◌, subst}
 use mathlib.Core.Bool.{Bool, true, false, ◌&&◌, ◌||◌, not, cond}
-use mathlib.Core.List.{[], ◌∷◌}
 use mathlib.Core.Logic.{◌⊎◌, inl, inr}
-use mathlib.Core.Option.{Option, none, some}
 use Prim.Native.Nat.{ℕ, zero, suc, ◌+◌, ◌≤◌}
 use native.Mathlib.Omega.{arith}
 use lib.Dec.{leb, ltb, eqb}
@@ -21,8 +20,8 @@ use Rattle.sheet.specs.Notes.{Sized}
 use Rattle.sheet.specs.Verdict.{stage, counts_right, kind_right, inside, body_right, is_element, text_right, nodes, attributes, node_format, attribute_format, node_kind, node_tree, node_range, attribute_range, node_text, attribute_text, counts_from, judged, verdict_of, header_of, is_sheet}
 use Rattle.sheet.specs.declared.line.Layout.{Layout}
 use Rattle.sheet.specs.declared.line.Row.{Row}
-use Rattle.sheet.specs.declared.verdict.Verdict.{Verdict}
-use Rattle.sheet.specs.declared.verdict.Verdict.TheVariants.{Sheet, Length, Format, Counts, Kind, Tree, Range, Encoding}
+use Rattle.sheet.specs.declared.verdict.SheetError.{SheetError}
+use Rattle.sheet.specs.declared.verdict.SheetError.TheVariants.{Length, Format, Counts, Kind, Tree, Range, Encoding}
 use Rattle.sheet.proofs.FirstWrong.{all_right}
 use Rattle.sheet.proofs.Header.{counted}
 use Rattle.sheet.proofs.LayoutLaws.{in_pool, range_in_pool}
@@ -77,9 +76,9 @@ module _ (s : Bytes) (l : Layout) where
   depth_of zero e = omega (arith, (body_of e).depth)
   depth_of (suc i) e = (later s l i e).depth_within
 
-  parent_of_law : (o : Option ℕ) → is_element (row_at s l) o ≡ true → (j : ℕ) × (o ≡ some j) × ((row_at s l j).kind ≡ 1)
-  parent_of_law none e = absurd_test e refl
-  parent_of_law (some j) e = (j, refl, eqb-true (row_at s l j).kind 1 e)
+  parent_of_law : (o : Option ℕ) → is_element (row_at s l) o ≡ true → (j : ℕ) × (o ≡ Some j) × ((row_at s l j).kind ≡ 1)
+  parent_of_law None e = absurd_test e refl
+  parent_of_law (Some j) e = (j, refl, eqb-true (row_at s l j).kind 1 e)
 
   later_of : (i : ℕ) → node_tree s l (suc i) ≡ true → Later s l i
   later_of i e =
@@ -88,102 +87,90 @@ module _ (s : Bytes) (l : Layout) where
 
 -- ---- a sheet is accepted where no stage refuses it
 
-sheet_is : {a b : Layout} → Sheet a ≡ Sheet b → a ≡ b
+sheet_is : {a b : Layout} → ◌≡◌ {A = Result Layout SheetError} (Ok a) (Ok b) → a ≡ b
 sheet_is h = cc
 
--- what the code knows of a verdict that is not `Sheet`
-abbrev pub NotSheet : Verdict → Type 0
-NotSheet v = (l : Layout) → v ≡ Sheet l → ⊥
+-- what the code knows of a verdict that is an error
+abbrev pub NotSheet : Result Layout SheetError → Type 0
+NotSheet v = (l : Layout) → v ≡ Ok l → ⊥
 
-pub not_sheet : (v : Verdict) → NotSheet v → is_sheet v ≡ false
-not_sheet (Sheet l) k = absurd (k l refl)
-not_sheet (Length n) k = refl
-not_sheet (Format n) k = refl
-not_sheet Counts k = refl
-not_sheet (Kind n) k = refl
-not_sheet (Tree n) k = refl
-not_sheet (Range n) k = refl
-not_sheet (Encoding n) k = refl
+pub not_sheet : (v : Result Layout SheetError) → NotSheet v → is_sheet v ≡ false
+not_sheet (Ok l) k = absurd (k l refl)
+not_sheet (Err e) k = refl
 
-pub sheet_of : (v : Verdict) → is_sheet v ≡ true → (k : Layout) × (v ≡ Sheet k)
-sheet_of (Sheet k) t = (k, refl)
-sheet_of (Length n) t = absurd_test t refl
-sheet_of (Format n) t = absurd_test t refl
-sheet_of Counts t = absurd_test t refl
-sheet_of (Kind n) t = absurd_test t refl
-sheet_of (Tree n) t = absurd_test t refl
-sheet_of (Range n) t = absurd_test t refl
-sheet_of (Encoding n) t = absurd_test t refl
+pub sheet_of : (v : Result Layout SheetError) → is_sheet v ≡ true → (k : Layout) × (v ≡ Ok k)
+sheet_of (Ok k) t = (k, refl)
+sheet_of (Err e) t = absurd_test t refl
 
 module _ {l : Layout} where
-  cond_sheet : (b : Bool) (refuse next : Verdict) → is_sheet refuse ≡ false → cond (not b) refuse next ≡ Sheet l → (b ≡ true) × (next ≡ Sheet l)
+  cond_sheet : (b : Bool) (refuse next : Result Layout SheetError) → is_sheet refuse ≡ false → cond (not b) refuse next ≡ Ok l → (b ≡ true) × (next ≡ Ok l)
   cond_sheet true refuse next h e = (refl, e)
   cond_sheet false refuse next h e = absurd_test (ap is_sheet e) h
 
-  stage_sheet : (o : Option ℕ) (refuse : ℕ → Verdict) (next : Verdict) → ((i : ℕ) → is_sheet (refuse i) ≡ false) → stage o refuse next ≡ Sheet l → (o ≡ none) × (next ≡ Sheet l)
-  stage_sheet none refuse next h e = (refl, e)
-  stage_sheet (some i) refuse next h e = absurd_test (ap is_sheet e) (h i)
+  stage_sheet : (o : Option ℕ) (refuse : ℕ → SheetError) (next : Result Layout SheetError) → stage o refuse next ≡ Ok l → (o ≡ None) × (next ≡ Ok l)
+  stage_sheet None refuse next e = (refl, e)
+  stage_sheet (Some i) refuse next e = absurd_test (ap is_sheet e) refl
 
 module _ (s : Bytes) (l : Layout) where
   -- the verdict from each stage on
-  abbrev from_attribute_texts : Verdict
-  from_attribute_texts = stage (attributes s l (attribute_text s l)) (λ j. Encoding (l.nodes + j + 1)) (Sheet l)
+  abbrev from_attribute_texts : Result Layout SheetError
+  from_attribute_texts = stage (attributes s l (attribute_text s l)) (λ j. Encoding (l.nodes + j + 1)) (Ok l)
 
-  abbrev from_node_texts : Verdict
+  abbrev from_node_texts : Result Layout SheetError
   from_node_texts = stage (nodes s l (node_text s l)) (λ i. Encoding (i + 1)) from_attribute_texts
 
-  abbrev from_counts : Verdict
-  from_counts = cond (not (eqb (counts_from s l 0 l.nodes) l.attributes)) (Range 0) from_node_texts
+  abbrev from_counts : Result Layout SheetError
+  from_counts = cond (not (eqb (counts_from s l 0 l.nodes) l.attributes)) (Err (Range 0)) from_node_texts
 
-  abbrev from_attribute_ranges : Verdict
+  abbrev from_attribute_ranges : Result Layout SheetError
   from_attribute_ranges = stage (attributes s l (attribute_range s l)) (λ j. Range (l.nodes + j + 1)) from_counts
 
-  abbrev from_node_ranges : Verdict
+  abbrev from_node_ranges : Result Layout SheetError
   from_node_ranges = stage (nodes s l (node_range s l)) (λ i. Range (i + 1)) from_attribute_ranges
 
-  abbrev from_root : Verdict
-  from_root = cond (not (eqb (row_at s l l.root).kind 1)) (Tree 0) from_node_ranges
+  abbrev from_root : Result Layout SheetError
+  from_root = cond (not (eqb (row_at s l l.root).kind 1)) (Err (Tree 0)) from_node_ranges
 
-  abbrev from_tree : Verdict
+  abbrev from_tree : Result Layout SheetError
   from_tree = stage (nodes s l (node_tree s l)) (λ i. Tree (i + 1)) from_root
 
-  abbrev from_kinds : Verdict
+  abbrev from_kinds : Result Layout SheetError
   from_kinds = stage (nodes s l (node_kind s l)) (λ i. Kind (i + 1)) from_tree
 
-  abbrev from_attribute_formats : Verdict
+  abbrev from_attribute_formats : Result Layout SheetError
   from_attribute_formats = stage (attributes s l (attribute_format s l)) (λ j. Format (l.nodes + j + 1)) from_kinds
 
   -- no stage refuses
   pub record Stages : Type 0 where
-    pub node_formats : nodes s l (node_format s l) ≡ none
-    pub attribute_formats : attributes s l (attribute_format s l) ≡ none
-    pub kinds : nodes s l (node_kind s l) ≡ none
-    pub tree : nodes s l (node_tree s l) ≡ none
+    pub node_formats : nodes s l (node_format s l) ≡ None
+    pub attribute_formats : attributes s l (attribute_format s l) ≡ None
+    pub kinds : nodes s l (node_kind s l) ≡ None
+    pub tree : nodes s l (node_tree s l) ≡ None
     pub root : eqb (row_at s l l.root).kind 1 ≡ true
-    pub node_ranges : nodes s l (node_range s l) ≡ none
-    pub attribute_ranges : attributes s l (attribute_range s l) ≡ none
+    pub node_ranges : nodes s l (node_range s l) ≡ None
+    pub attribute_ranges : attributes s l (attribute_range s l) ≡ None
     pub counts : eqb (counts_from s l 0 l.nodes) l.attributes ≡ true
-    pub node_texts : nodes s l (node_text s l) ≡ none
-    pub attribute_texts : attributes s l (attribute_text s l) ≡ none
+    pub node_texts : nodes s l (node_text s l) ≡ None
+    pub attribute_texts : attributes s l (attribute_text s l) ≡ None
 
-  pub stages_judged : Stages → judged s l ≡ Sheet l
+  pub stages_judged : Stages → judged s l ≡ Ok l
   unfolding judged
   stages_judged g =
       rw (g.node_formats, g.attribute_formats, g.kinds, g.tree, g.root, g.node_ranges, g.attribute_ranges, g.counts, g.node_texts, g.attribute_texts)
 
-  pub judged_stages : {accepted : Layout} → judged s l ≡ Sheet accepted → (l ≡ accepted) × Stages
+  pub judged_stages : {accepted : Layout} → judged s l ≡ Ok accepted → (l ≡ accepted) × Stages
   unfolding judged
   judged_stages e =
-      let node_formats = stage_sheet (nodes s l (node_format s l)) (λ i. Format (i + 1)) from_attribute_formats (λ i. refl) e in
-      let attribute_formats = stage_sheet (attributes s l (attribute_format s l)) (λ j. Format (l.nodes + j + 1)) from_kinds (λ i. refl) node_formats.1 in
-      let kinds = stage_sheet (nodes s l (node_kind s l)) (λ i. Kind (i + 1)) from_tree (λ i. refl) attribute_formats.1 in
-      let tree = stage_sheet (nodes s l (node_tree s l)) (λ i. Tree (i + 1)) from_root (λ i. refl) kinds.1 in
-      let root = cond_sheet (eqb (row_at s l l.root).kind 1) (Tree 0) from_node_ranges refl tree.1 in
-      let node_ranges = stage_sheet (nodes s l (node_range s l)) (λ i. Range (i + 1)) from_attribute_ranges (λ i. refl) root.1 in
-      let attribute_ranges = stage_sheet (attributes s l (attribute_range s l)) (λ j. Range (l.nodes + j + 1)) from_counts (λ i. refl) node_ranges.1 in
-      let counts = cond_sheet (eqb (counts_from s l 0 l.nodes) l.attributes) (Range 0) from_node_texts refl attribute_ranges.1 in
-      let node_texts = stage_sheet (nodes s l (node_text s l)) (λ i. Encoding (i + 1)) from_attribute_texts (λ i. refl) counts.1 in
-      let attribute_texts = stage_sheet (attributes s l (attribute_text s l)) (λ j. Encoding (l.nodes + j + 1)) (Sheet l) (λ i. refl) node_texts.1 in (
+      let node_formats = stage_sheet (nodes s l (node_format s l)) (λ i. Format (i + 1)) from_attribute_formats e in
+      let attribute_formats = stage_sheet (attributes s l (attribute_format s l)) (λ j. Format (l.nodes + j + 1)) from_kinds node_formats.1 in
+      let kinds = stage_sheet (nodes s l (node_kind s l)) (λ i. Kind (i + 1)) from_tree attribute_formats.1 in
+      let tree = stage_sheet (nodes s l (node_tree s l)) (λ i. Tree (i + 1)) from_root kinds.1 in
+      let root = cond_sheet (eqb (row_at s l l.root).kind 1) (Err (Tree 0)) from_node_ranges refl tree.1 in
+      let node_ranges = stage_sheet (nodes s l (node_range s l)) (λ i. Range (i + 1)) from_attribute_ranges root.1 in
+      let attribute_ranges = stage_sheet (attributes s l (attribute_range s l)) (λ j. Range (l.nodes + j + 1)) from_counts node_ranges.1 in
+      let counts = cond_sheet (eqb (counts_from s l 0 l.nodes) l.attributes) (Err (Range 0)) from_node_texts refl attribute_ranges.1 in
+      let node_texts = stage_sheet (nodes s l (node_text s l)) (λ i. Encoding (i + 1)) from_attribute_texts counts.1 in
+      let attribute_texts = stage_sheet (attributes s l (attribute_text s l)) (λ j. Encoding (l.nodes + j + 1)) (Ok l) node_texts.1 in (
         sheet_is attribute_texts.1,
         record {
           node_formats = node_formats.0;
@@ -199,7 +186,7 @@ module _ (s : Bytes) (l : Layout) where
         },
       )
 
-  module _ (sized : Sized s l) {accepted : Layout} (e : judged s l ≡ Sheet accepted) where
+  module _ (sized : Sized s l) {accepted : Layout} (e : judged s l ≡ Ok accepted) where
     pub judged_accepts : (l ≡ accepted) × Accepted s l
     unfolding node_kind node_text attribute_text
     judged_accepts =
@@ -244,20 +231,20 @@ module _ (s : Bytes) (l : Layout) where
 
 -- ---- the header and the lines
 
-refused_first : {l : Layout} (b : Bool) (refuse next : Verdict) → is_sheet refuse ≡ false → cond b refuse next ≡ Sheet l → (b ≡ false) × (next ≡ Sheet l)
+refused_first : {l : Layout} (b : Bool) (refuse next : Result Layout SheetError) → is_sheet refuse ≡ false → cond b refuse next ≡ Ok l → (b ≡ false) × (next ≡ Ok l)
 refused_first true refuse next h q = absurd_test (ap is_sheet q) h
 refused_first false refuse next h q = (refl, q)
 
 -- the tests of the header, with `x` behind them
-abbrev tested : ℕ → Bytes → Verdict → Verdict
+abbrev tested : ℕ → Bytes → Result Layout SheetError → Result Layout SheetError
 tested w s x =
     let k = layout_of w (quad_from w s 0) in
-    cond (ltb (length s) (header_length w)) (Length (header_length w))
-    (cond (not (line_right w s 0 4)) (Format 0)
-    (cond (not (counts_right k)) Counts
-    (cond (not (eqb (length s) (size_of k))) (Length (size_of k)) x)))
+    cond (ltb (length s) (header_length w)) (Err (Length (header_length w)))
+    (cond (not (line_right w s 0 4)) (Err (Format 0))
+    (cond (not (counts_right k)) (Err Counts)
+    (cond (not (eqb (length s) (size_of k))) (Err (Length (size_of k))) x)))
 
-tests_refuse : (a b c d : Bool) (p q r t x y : Verdict) → is_sheet x ≡ true → is_sheet (cond a p (cond (not b) q (cond (not c) r (cond (not d) t x)))) ≡ false
+tests_refuse : (a b c d : Bool) (p q r t x y : Result Layout SheetError) → is_sheet x ≡ true → is_sheet (cond a p (cond (not b) q (cond (not c) r (cond (not d) t x)))) ≡ false
     → cond a p (cond (not b) q (cond (not c) r (cond (not d) t x))) ≡ cond a p (cond (not b) q (cond (not c) r (cond (not d) t y)))
 tests_refuse true b c d p q r t x y sheet h = refl
 tests_refuse false false c d p q r t x y sheet h = refl
@@ -271,21 +258,21 @@ module _ (w : ℕ) (s : Bytes) where
   unfolding header_of verdict_of
   header_refuses h =
       let k = layout_of w (quad_from w s 0) in
-      tests_refuse (ltb (length s) (header_length w)) (line_right w s 0 4) (counts_right k) (eqb (length s) (size_of k)) (Length (header_length w)) (Format 0) Counts (Length (size_of k)) (Sheet k) (judged s k) refl h
+      tests_refuse (ltb (length s) (header_length w)) (line_right w s 0 4) (counts_right k) (eqb (length s) (size_of k)) (Err (Length (header_length w))) (Err (Format 0)) (Err Counts) (Err (Length (size_of k))) (Ok k) (judged s k) refl h
 
   module _ (width : w ≤ 10) where
     -- what it does not refuse is judged by its lines
-    pub header_passes : {l : Layout} → header_of w s ≡ Sheet l → Sized s l × (judged s l ≡ verdict_of w s) × (l.width ≡ w)
+    pub header_passes : {l : Layout} → header_of w s ≡ Ok l → Sized s l × (judged s l ≡ verdict_of w s) × (l.width ≡ w)
     unfolding header_of verdict_of
     header_passes {l} e =
         let k = layout_of w (quad_from w s 0) in
-        let from_length = cond (not (eqb (length s) (size_of k))) (Length (size_of k)) (Sheet k) in
-        let from_counts = cond (not (counts_right k)) Counts from_length in
-        let from_header = cond (not (line_right w s 0 4)) (Format 0) from_counts in
-        let header = refused_first (ltb (length s) (header_length w)) (Length (header_length w)) from_header refl e in
-        let counts = cond_sheet (line_right w s 0 4) (Format 0) from_counts refl header.1 in
-        let long = cond_sheet (counts_right k) Counts from_length refl counts.1 in
-        let lines = cond_sheet (eqb (length s) (size_of k)) (Length (size_of k)) (Sheet k) refl long.1 in
+        let from_length = cond (not (eqb (length s) (size_of k))) (Err (Length (size_of k))) (Ok k) in
+        let from_counts = cond (not (counts_right k)) (Err Counts) from_length in
+        let from_header = cond (not (line_right w s 0 4)) (Err (Format 0)) from_counts in
+        let header = refused_first (ltb (length s) (header_length w)) (Err (Length (header_length w))) from_header refl e in
+        let counts = cond_sheet (line_right w s 0 4) (Err (Format 0)) from_counts refl header.1 in
+        let long = cond_sheet (counts_right k) (Err Counts) from_length refl counts.1 in
+        let lines = cond_sheet (eqb (length s) (size_of k)) (Err (Length (size_of k))) (Ok k) refl long.1 in
         let n = counted k long.0 in
         let sized : Sized s k =
         record { width = width; some_node = n.some_node; nodes = n.nodes; attributes = n.attributes; pool = n.pool; root = n.root; header = counts.0; layout = refl; size = eqb-true (length s) (size_of k) lines.0 } in
@@ -295,7 +282,7 @@ module _ (w : ℕ) (s : Bytes) where
 
 -- the whole verdict
 module _ {w : ℕ} (width : w ≤ 10) {s : Bytes} {l : Layout} where
-  pub accepts : verdict_of w s ≡ Sheet l → (l.width ≡ w) × Accepted s l
+  pub accepts : verdict_of w s ≡ Ok l → (l.width ≡ w) × Accepted s l
   accepts e = by_test (is_sheet (header_of w s)) passed (λ t. absurd_test (ap is_sheet (header_refuses w s t ∙ e)) t)
     where
       passed : is_sheet (header_of w s) ≡ true → (l.width ≡ w) × Accepted s l

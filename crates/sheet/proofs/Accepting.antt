@@ -1,8 +1,8 @@
 -- A sheet is accepted exactly where its rows are right one after the other, and so are its counts, its root and its attribute lines.
+use Rattle.std.specs.Prelude.{Option, None, Some, Ok, Err, is_none}
 use mathlib.Core.Path.{◌≡◌, refl, sym, ap, ◌∙◌, subst}
-use mathlib.Core.Bool.{Bool, true, false, ◌&&◌, cond}
+use mathlib.Core.Bool.{Bool, true, false, ◌&&◌}
 use mathlib.Core.Logic.{◌⊎◌}
-use mathlib.Core.Option.{Option, none, some}
 use Prim.Native.Nat.{ℕ, zero, suc, ◌+◌, ◌-◌, ◌≤◌, ◌<◌}
 use native.Mathlib.Numerals.{add-one}
 use native.Mathlib.Omega.{arith}
@@ -15,15 +15,12 @@ use Rattle.utf8.specs.Valid.{valid}
 use Rattle.sheet.specs.Accepted.{Accepted}
 use Rattle.sheet.specs.Layout.{most_depth, header_length, node_length, node_start, part_of, row_at, pool_of}
 use Rattle.sheet.specs.Lines.{line_right, row_from, node_line_of}
-use Rattle.sheet.specs.Notes.{Sized, found_of, is_nothing, is_none, tree_right, row_right, right_line, row_in, attributes_read, attributes_right, rest_right}
+use Rattle.sheet.specs.Notes.{Sized, row_right, right_line, row_in, attributes_read, attributes_right, rest_right}
 use Rattle.sheet.specs.Verdict.{inside, text_right, nodes, attributes, node_format, attribute_format, node_kind, node_tree, node_range, attribute_range, node_text, attribute_text, counts_from, judged, is_sheet}
 use Rattle.sheet.specs.Theorems.{rows_right, AcceptedRowByRow}
 use Rattle.sheet.specs.declared.line.Layout.{Layout}
-use Rattle.sheet.specs.declared.line.NodeLine.{NodeLine}
-use Rattle.sheet.specs.declared.line.NodeLine
 use Rattle.sheet.specs.declared.line.Row.{Row}
 use Rattle.sheet.specs.declared.notes.AttributeNotes.{AttributeNotes}
-use Rattle.sheet.specs.declared.notes.AttributesRead.TheVariants.{Noted, Bad}
 use Rattle.sheet.proofs.Acceptance.{Stages, judged_stages, stages_judged, judged_accepts, sheet_of, kind_of, text_of, depth_of}
 use Rattle.sheet.proofs.FirstWrong.{all_right, none_wrong}
 use Rattle.sheet.proofs.LayoutLaws.{row_there}
@@ -33,24 +30,20 @@ use Rattle.sheet.proofs.Parents.{tree_test}
 
 -- ---- the attribute lines
 
-nothing_found : (o : Option ℕ) → is_nothing (found_of o) ≡ is_none o
-nothing_found none = refl
-nothing_found (some i) = refl
-
-none_is : (o : Option ℕ) → is_none o ≡ true → o ≡ none
-none_is none e = refl
-none_is (some i) e = absurd_test e refl
+none_is : (o : Option ℕ) → is_none o ≡ true → o ≡ None
+none_is None e = refl
+none_is (Some i) e = absurd_test e refl
 
 module _ (s : Bytes) (l : Layout) where
-  pub attributes_bad_right : {j : ℕ} → attributes_read s l ≡ Bad j → false ≡ attributes_right s l
+  pub attributes_bad_right : {j : ℕ} → attributes_read s l ≡ Err j → false ≡ attributes_right s l
   unfolding attributes_right
   attributes_bad_right h = rw (attributes_bad_at s l h)
 
-  pub attributes_noted_right : {a : AttributeNotes} → attributes_read s l ≡ Noted a → (is_nothing a.range && is_nothing a.encoding) ≡ attributes_right s l
+  pub attributes_noted_right : {a : AttributeNotes} → attributes_read s l ≡ Ok a → (is_none a.range && is_none a.encoding) ≡ attributes_right s l
   unfolding attributes_right
   attributes_noted_right h =
       let x = attributes_noted s l h in
-      rw (x.0, x.1, nothing_found (attributes s l (attribute_range s l)), nothing_found (attributes s l (attribute_text s l)))
+      rw (x.0, x.1)
 
 -- ---- what must be right beside the rows
 
@@ -70,59 +63,59 @@ module _ (s : Bytes) (l : Layout) (counts : ℕ) where
 
 -- ---- a line as a row
 
-numbers_not_bad {ℓ} : {P : Type ℓ} {r : Row} → NodeLine.TheVariants.Bad ≡ NodeLine.TheVariants.Numbers r → P
+numbers_not_bad {ℓ} : {P : Type ℓ} {r : Row} → None ≡ Some r → P
 numbers_not_bad h = absurd (let z : ◌≡◌ {A = ℕ} 0 1 = cc in omega arith)
 
 module _ (s : Bytes) (l : Layout) (i : ℕ) (before : Row) (at first : ℕ) where
-  pub row_in_no_line : node_line_of l.width s at ≡ NodeLine.TheVariants.Bad → NodeLine.TheVariants.Bad ≡ row_in s l i before at first
+  pub row_in_no_line : node_line_of l.width s at ≡ None → None ≡ row_in s l i before at first
   unfolding row_in
   row_in_no_line e = sym (ap (right_line s l i before first) e)
 
-  module _ {r : Row} (e : node_line_of l.width s at ≡ NodeLine.TheVariants.Numbers r) {pool : Bytes} (of : pool ≡ pool_of s l) where
-    pub row_in_wrong : row_right pool i before r ≡ false → NodeLine.TheVariants.Bad ≡ row_in s l i before at first
+  module _ {r : Row} (e : node_line_of l.width s at ≡ Some r) {pool : Bytes} (of : pool ≡ pool_of s l) where
+    pub row_in_wrong : row_right pool i before r ≡ false → None ≡ row_in s l i before at first
     unfolding row_in
     row_in_wrong w = sym (ap (right_line s l i before first) e ∙ rw (← of, w))
 
     module _ (w : row_right pool i before r ≡ true) where
-      pub row_in_many : l.attributes < first + r.attributes → NodeLine.TheVariants.Bad ≡ row_in s l i before at first
+      pub row_in_many : l.attributes < first + r.attributes → None ≡ row_in s l i before at first
       unfolding row_in
       row_in_many h = sym (ap (right_line s l i before first) e ∙ rw (← of, w, lt-leb (first + r.attributes) l.attributes h))
 
-      pub row_in_right : first + r.attributes ≤ l.attributes → NodeLine.TheVariants.Numbers r ≡ row_in s l i before at first
+      pub row_in_right : first + r.attributes ≤ l.attributes → Some r ≡ row_in s l i before at first
       unfolding row_in
       row_in_right h = sym (ap (right_line s l i before first) e ∙ rw (← of, w, le-leb (first + r.attributes) l.attributes h))
 
   pub record RowIn (r : Row) : Type 0 where
-    pub line : node_line_of l.width s at ≡ NodeLine.TheVariants.Numbers r
+    pub line : node_line_of l.width s at ≡ Some r
     pub right : row_right (pool_of s l) i before r ≡ true
     pub few : first + r.attributes ≤ l.attributes
 
-  pub row_in_numbers : {r : Row} → row_in s l i before at first ≡ NodeLine.TheVariants.Numbers r → RowIn r
+  pub row_in_numbers : {r : Row} → row_in s l i before at first ≡ Some r → RowIn r
   unfolding row_in
   row_in_numbers {r} q = by_line (node_line_of l.width s at) refl q
     where
-      by_line : (x : NodeLine) → node_line_of l.width s at ≡ x → right_line s l i before first x ≡ NodeLine.TheVariants.Numbers r → RowIn r
-      by_line (NodeLine.TheVariants.Numbers t) e c =
+      by_line : (x : Option Row) → node_line_of l.width s at ≡ x → right_line s l i before first x ≡ Some r → RowIn r
+      by_line (Some t) e c =
           by_test (row_right (pool_of s l) i before t && leb (first + t.attributes) l.attributes) (λ b. taken b (rw b at c)) (λ b. numbers_not_bad (rw b at c))
         where
-          taken : (row_right (pool_of s l) i before t && leb (first + t.attributes) l.attributes) ≡ true → NodeLine.TheVariants.Numbers t ≡ NodeLine.TheVariants.Numbers r → RowIn r
+          taken : (row_right (pool_of s l) i before t && leb (first + t.attributes) l.attributes) ≡ true → Some t ≡ Some r → RowIn r
           taken b h =
               let same : t ≡ r = cc in
               let p = and_parts (row_right (pool_of s l) i before t) (leb (first + t.attributes) l.attributes) b in
               rw (← same) (record { line = e; right = p.0; few = leb-true (first + t.attributes) l.attributes p.1 })
-      by_line NodeLine.TheVariants.Bad e c = numbers_not_bad c
+      by_line None e c = numbers_not_bad c
 
-  pub row_in_bad {ℓ} : {P : Type ℓ} → row_in s l i before at first ≡ NodeLine.TheVariants.Bad → (node_line_of l.width s at ≡ NodeLine.TheVariants.Bad → P)
-      → ((r : Row) → node_line_of l.width s at ≡ NodeLine.TheVariants.Numbers r → row_right (pool_of s l) i before r ≡ false → P)
-      → ((r : Row) → node_line_of l.width s at ≡ NodeLine.TheVariants.Numbers r → row_right (pool_of s l) i before r ≡ true → l.attributes < first + r.attributes → P) → P
+  pub row_in_bad {ℓ} : {P : Type ℓ} → row_in s l i before at first ≡ None → (node_line_of l.width s at ≡ None → P)
+      → ((r : Row) → node_line_of l.width s at ≡ Some r → row_right (pool_of s l) i before r ≡ false → P)
+      → ((r : Row) → node_line_of l.width s at ≡ Some r → row_right (pool_of s l) i before r ≡ true → l.attributes < first + r.attributes → P) → P
   row_in_bad {P} q no_line wrong many = by_line (node_line_of l.width s at) refl
     where
-      by_line : (x : NodeLine) → node_line_of l.width s at ≡ x → P
-      by_line (NodeLine.TheVariants.Numbers t) e =
+      by_line : (x : Option Row) → node_line_of l.width s at ≡ x → P
+      by_line (Some t) e =
           by_test (row_right (pool_of s l) i before t)
           (λ w. by_test (leb (first + t.attributes) l.attributes) (λ b. numbers_not_bad (sym q ∙ sym (row_in_right e refl w (leb-true (first + t.attributes) l.attributes b)))) (λ b. many t e w (leb-false (first + t.attributes) l.attributes b)))
           (λ w. wrong t e w)
-      by_line NodeLine.TheVariants.Bad e = no_line e
+      by_line None e = no_line e
 
 -- ---- row after row
 
@@ -185,10 +178,10 @@ module _ (s : Bytes) (l : Layout) where
     unfolding node_format
     format_at e = ap (λ (k : ℕ). line_right l.width s k 8) (sym p.place) ∙ e
 
-    pub rows_bad : node_line_of l.width s at ≡ NodeLine.TheVariants.Bad → false ≡ is_sheet (judged s l)
+    pub rows_bad : node_line_of l.width s at ≡ None → false ≡ is_sheet (judged s l)
     rows_bad e = refuted (λ g. absurd_test (all_right (node_format s l) l.nodes g.node_formats i h) (format_at (line_bad l.width s at e)))
 
-    module _ {r : Row} (e : node_line_of l.width s at ≡ NodeLine.TheVariants.Numbers r) where
+    module _ {r : Row} (e : node_line_of l.width s at ≡ Some r) where
       pub row_is : r ≡ row_at s l i
       row_is = (line_numbers l.width s at e).1 ∙ ap (row_from l.width s) p.place ∙ sym (row_there s l i h)
 
@@ -231,7 +224,7 @@ module _ (s : Bytes) (l : Layout) where
 
   -- behind the last row
   module _ {before : Row} {at i counts : ℕ} (p : Rows before at i) (h : l.nodes ≤ i) (c : counts ≡ counts_from s l 0 l.nodes) where
-    all : (right : ℕ → Bool) → ((j : ℕ) → j < i → right j ≡ true) → nodes s l right ≡ none
+    all : (right : ℕ → Bool) → ((j : ℕ) → j < i → right j ≡ true) → nodes s l right ≡ None
     all right f = none_wrong right l.nodes (λ j g. f j (omega arith))
 
     pub rows_end : rest_right s l counts ≡ is_sheet (judged s l)
@@ -266,12 +259,12 @@ module _ (s : Bytes) (l : Layout) where
 -- ---- all rows
 
 module _ (s : Bytes) (l : Layout) where
-  rows_line : (n i : ℕ) (before r : Row) → node_line_of l.width s (node_start l i) ≡ NodeLine.TheVariants.Numbers r
+  rows_line : (n i : ℕ) (before r : Row) → node_line_of l.width s (node_start l i) ≡ Some r
       → rows_right s l i before (suc n) ≡ (row_right (pool_of s l) i before r && rows_right s l (suc i) r n)
   unfolding rows_right
   rows_line n i before r e = rw (e, rows_right)
 
-  rows_no_line : (n i : ℕ) (before : Row) → node_line_of l.width s (node_start l i) ≡ NodeLine.TheVariants.Bad → rows_right s l i before (suc n) ≡ false
+  rows_no_line : (n i : ℕ) (before : Row) → node_line_of l.width s (node_start l i) ≡ None → rows_right s l i before (suc n) ≡ false
   unfolding rows_right
   rows_no_line n i before e = rw (e, rows_right)
 
@@ -283,12 +276,12 @@ module _ (s : Bytes) (l : Layout) where
       → is_sheet (judged s l) ≡ (rows_right s l i before (suc n) && Rest)
   rows_step n i before p h next = by_line (node_line_of l.width s (node_start l i)) refl
     where
-      by_line : (x : NodeLine) → node_line_of l.width s (node_start l i) ≡ x → is_sheet (judged s l) ≡ (rows_right s l i before (suc n) && Rest)
-      by_line (NodeLine.TheVariants.Numbers r) e =
+      by_line : (x : Option Row) → node_line_of l.width s (node_start l i) ≡ x → is_sheet (judged s l) ≡ (rows_right s l i before (suc n) && Rest)
+      by_line (Some r) e =
           by_test (row_right (pool_of s l) i before r)
           (λ w. rw (rows_line n i before r e, w) (next r (subst (λ (k : ℕ). Rows s l r (node_start l (suc i)) k) (add-one i) (rows_more s l p h e w {then = node_start l (suc i)} (omega arith)))))
           (λ w. rw (rows_line n i before r e, w) (sym (rows_wrong s l p h e w)))
-      by_line NodeLine.TheVariants.Bad e = rw (rows_no_line n i before e) (sym (rows_bad s l p h e))
+      by_line None e = rw (rows_no_line n i before e) (sym (rows_bad s l p h e))
 
   rows_all : (n i : ℕ) (before : Row) → Rows s l before (node_start l i) i → i + n ≡ l.nodes → is_sheet (judged s l) ≡ (rows_right s l i before n && Rest)
   unfolding rows_right

@@ -1,8 +1,7 @@
 -- A number in columns reads back as written, and in one form only.
+use Rattle.std.specs.Prelude.{Some}
 use mathlib.Core.Path.{◌≡◌, refl, sym, ap, ap₂, ◌∙◌}
-use mathlib.Core.Bool.{Bool, true, false, cond}
 use mathlib.Core.List.{[], ◌∷◌, ◌++◌}
-use mathlib.Core.Logic.{◌↔◌}
 use Prim.Native.Nat.{ℕ, zero, suc, ◌+◌, ◌-◌, ◌*◌, ◌/◌, ◌%◌, ◌^◌, ◌≤◌, ◌<◌}
 use native.Mathlib.Nat.{pow-succ', pow-le-pow_right}
 use native.Mathlib.Numerals.{add-one}
@@ -15,8 +14,6 @@ use Rattle.common.specs.Bytes.{Bytes}
 use Rattle.common.proofs.Choice.{by_cond}
 use Rattle.sheet.specs.Columns.{Columns, Blank, Value, Broken, columns, if_digit, next_column, columns_from, finish, field_of, ReadsBack}
 use Rattle.sheet.specs.Writing.{front}
-use Rattle.sheet.specs.declared.field.Field.{Field}
-use Rattle.sheet.specs.declared.field.Field.TheVariants.{Number, Bad}
 use Rattle.sheet.proofs.ReadingColumns.{ten_positive}
 
 columns_append : (c : Columns) (s t : Bytes) → columns_from c (s ++ t) ≡ columns_from (columns_from c s) t
@@ -143,7 +140,7 @@ value_form (suc w) s n l h =
     let r = longer w n (take w s) (get_or s w 0) (front_length w s l) from (λ m e. value_form w (take w s) (suc m) (front_length w s l) e) in
     (snoc w s l ∙ r.0, r.1)
 
-finish_number : (c : Columns) (n : ℕ) → finish c ≡ Number n → c ≡ Value n
+finish_number : (c : Columns) (n : ℕ) → finish c ≡ Some n → c ≡ Value n
 finish_number Blank n h = absurd (let z : ◌≡◌ {A = ℕ} 0 1 = cc in omega arith)
 finish_number (Value m) n h = cc
 finish_number Broken n h = absurd (let z : ◌≡◌ {A = ℕ} 0 1 = cc in omega arith)
@@ -156,19 +153,19 @@ reads_back s n = (there, λ h. back h.0 h.1 h.2)
     some_byte [] e = absurd (value_blank n (sym e))
     some_byte (b ∷ s) e = omega arith
 
-    there : finish (columns_from Blank s) ≡ Number n → (s ≡ columns (length s) n) × (0 < length s) × (n < 10 ^ length s)
+    there : finish (columns_from Blank s) ≡ Some n → (s ≡ columns (length s) n) × (0 < length s) × (n < 10 ^ length s)
     there h =
         let e = finish_number (columns_from Blank s) n h in
         let v = value_form (length s) s n refl e in
         (v.0, some_byte s e, v.1)
 
-    wide : (w : ℕ) → 0 < w → n < 10 ^ w → finish (columns_from Blank (columns w n)) ≡ Number n
+    wide : (w : ℕ) → 0 < w → n < 10 ^ w → finish (columns_from Blank (columns w n)) ≡ Some n
     wide zero p h = absurd (omega arith)
     wide (suc w) p h = ap finish (read_columns w n h)
 
-    back : s ≡ columns (length s) n → 0 < length s → n < 10 ^ length s → finish (columns_from Blank s) ≡ Number n
+    back : s ≡ columns (length s) n → 0 < length s → n < 10 ^ length s → finish (columns_from Blank s) ≡ Some n
     back e p h = ap (λ (x : Bytes). finish (columns_from Blank x)) e ∙ wide (length s) p h
 
 -- a number in at most w columns is below 10 ^ w
-pub field_below : (s : Bytes) (w : ℕ) → length s ≤ w → (n : ℕ) → field_of s ≡ Number n → n < 10 ^ w
+pub field_below : (s : Bytes) (w : ℕ) → length s ≤ w → (n : ℕ) → field_of s ≡ Some n → n < 10 ^ w
 field_below s w h n e = omega (arith, ((reads_back s n).0 e).2, pow-le-pow_right {n = 10} (lit< tt) h)

@@ -1,20 +1,17 @@
 -- Eight columns by the word of them.
+use Rattle.std.specs.Prelude.{Some, None}
 use mathlib.Core.Path.{◌≡◌, refl, sym, ap, ◌∙◌}
 use mathlib.Core.List.{[], ◌∷◌}
 use Prim.Native.Nat.{ℕ, suc, ◌+◌, ◌-◌, ◌*◌, ◌/◌, ◌%◌, ◌≤◌, ◌<◌}
 use native.Mathlib.Omega.{arith}
 use lib.Dec.{eqb}
-use lib.ListN.{length, get_or, take, drop, length-take}
+use lib.ListN.{length, get_or, take, drop}
 use lib.Seq.{drop-cons}
 use borrow.Author.Tests.{le-ltb, lt-ltb, ne_eqb}
 use Rattle.common.specs.Bytes.{Bytes}
 use Rattle.common.specs.Word.{word_at}
 use Rattle.common.proofs.Choice.{by_cond}
 use Rattle.sheet.specs.Columns.{Columns, Blank, Value, Broken, if_digit, next_column, columns_from, finish, field_of}
-use Rattle.sheet.specs.Reading.{in_eight}
-use Rattle.sheet.specs.declared.field.Field.{Field}
-use Rattle.sheet.specs.declared.field.Field.TheVariants.{Number, Bad}
-use Rattle.sheet.proofs.ColumnsLaws.{field_below}
 
 -- ---- the bytes one by one
 
@@ -59,32 +56,15 @@ module _ (s : Bytes) (octets : (k : ℕ) → get_or s k 0 < 256) (at : ℕ) (lon
   unfolding field_of
   field_last = ap (λ (t : Bytes). finish (columns_from Blank t)) seven_spaces
 
-  pub last_low : last < 48 → Bad ≡ field_of (take 8 (drop at s))
-  last_low h = sym (field_last ∙ by_cond (λ (c : Columns). finish c ≡ Bad) (eqb last 32) (λ e. refl) (λ e. let q : if_digit last (Value (last - 48)) ≡ Broken = rw (lt-ltb last 48 h) in ap finish q))
+  pub last_low : last < 48 → None ≡ field_of (take 8 (drop at s))
+  last_low h = sym (field_last ∙ by_cond (λ (c : Columns). finish c ≡ None) (eqb last 32) (λ e. refl) (λ e. let q : if_digit last (Value (last - 48)) ≡ Broken = rw (lt-ltb last 48 h) in ap finish q))
 
   module _ (low : 48 ≤ last) where
     not_space : last ≡ 32 → ⊥
     not_space e = omega arith
 
-    pub last_high : 57 < last → Bad ≡ field_of (take 8 (drop at s))
+    pub last_high : 57 < last → None ≡ field_of (take 8 (drop at s))
     last_high h = let q : next_column Blank last ≡ Broken = rw (ne_eqb last 32 not_space, le-ltb last 48 low, lt-ltb 57 last h) in sym (field_last ∙ ap finish q)
 
-    pub last_digit : last ≤ 57 → Number (last - 48) ≡ field_of (take 8 (drop at s))
+    pub last_digit : last ≤ 57 → Some (last - 48) ≡ field_of (take 8 (drop at s))
     last_digit h = let q : next_column Blank last ≡ Value (last - 48) = rw (ne_eqb last 32 not_space, le-ltb last 48 low, le-ltb 57 last h) in sym (field_last ∙ ap finish q)
-
--- ---- as one number
-
-number_of : (f : Field) (n : ℕ) → n ≡ in_eight f → n ≤ 99999999 → f ≡ Number n
-number_of (Number m) n e h = ap Number (sym e)
-number_of Bad n e h = absurd (omega arith)
-
-none_of : (t : Bytes) → length t ≤ 8 → (f : Field) → field_of t ≡ f → (n : ℕ) → n ≡ in_eight f → 99999999 < n → f ≡ Bad
-none_of t l (Number m) q n e h = absurd (omega (arith, field_below t 8 l m q))
-none_of t l Bad q n e h = refl
-
-module _ (s : Bytes) (at n : ℕ) (e : n ≡ in_eight (field_of (take 8 (drop at s)))) where
-  pub eight_number : n ≤ 99999999 → field_of (take 8 (drop at s)) ≡ Number n
-  eight_number h = number_of (field_of (take 8 (drop at s))) n e h
-
-  pub eight_none : 99999999 < n → field_of (take 8 (drop at s)) ≡ Bad
-  eight_none h = none_of (take 8 (drop at s)) (omega (arith, length-take 8 (drop at s))) (field_of (take 8 (drop at s))) refl n e h

@@ -1,6 +1,7 @@
 -- The header: its counts, and the verdict on it.
-use mathlib.Core.Path.{◌≡◌, refl, sym, ap, ◌∙◌}
-use mathlib.Core.Bool.{Bool, true, false, ◌&&◌, not, cond, and-false}
+use Rattle.std.specs.Prelude.{Ok, Err, Some, None}
+use mathlib.Core.Path.{◌≡◌}
+use mathlib.Core.Bool.{true, false, ◌&&◌, not, cond}
 use Prim.Native.Nat.{ℕ, ◌+◌, ◌*◌, ◌≤◌, ◌<◌}
 use native.Mathlib.Nat.{mul-le-mul}
 use native.Mathlib.Omega.{arith}
@@ -10,13 +11,11 @@ use borrow.Author.Tests.{leb-true, ltb-true, le-leb, lt-leb, lt-ltb, le-ltb, eq-
 use Rattle.common.specs.Bytes.{Bytes}
 use Rattle.common.proofs.Choice.{and_parts}
 use Rattle.sheet.specs.Layout.{header_length, size_of, most_rows, most_attributes, pool_limit, layout_of}
-use Rattle.sheet.specs.Lines.{line_right, quad_from, short_line_of}
+use Rattle.sheet.specs.Lines.{short_line_of}
 use Rattle.sheet.specs.Verdict.{counts_right, header_of}
-use Rattle.sheet.specs.declared.line.Four
 use Rattle.sheet.specs.declared.line.Layout.{Layout}
 use Rattle.sheet.specs.declared.line.Quad.{Quad}
-use Rattle.sheet.specs.declared.verdict.Verdict.{Verdict}
-use Rattle.sheet.specs.declared.verdict.Verdict.TheVariants.{Sheet, Length, Format, Counts}
+use Rattle.sheet.specs.declared.verdict.SheetError.TheVariants.{Length, Format, Counts}
 use Rattle.sheet.proofs.AttributePass.{short_numbers, short_bad}
 
 -- ---- counts
@@ -78,26 +77,26 @@ short_lines_small w n h k = let m : 4 * w + 1 ≤ 41 = omega arith in mul-le-mul
 -- ---- the verdict, up to the lines
 
 module _ (w : ℕ) (s : Bytes) where
-  pub header_short : length s < header_length w → Length (header_length w) ≡ header_of w s
+  pub header_short : length s < header_length w → Err (Length (header_length w)) ≡ header_of w s
   unfolding header_of
   header_short h = rw (lt-ltb (length s) (header_length w) h)
 
   module _ (h : header_length w ≤ length s) where
-    pub header_bad : short_line_of w s 0 ≡ Four.TheVariants.Bad → Format 0 ≡ header_of w s
+    pub header_bad : short_line_of w s 0 ≡ None → Err (Format 0) ≡ header_of w s
     unfolding header_of
     header_bad e = rw (le-ltb (length s) (header_length w) h, short_bad w s 0 e)
 
-    module _ {q : Quad} (e : short_line_of w s 0 ≡ Four.TheVariants.Numbers q) where
-      after_header : header_of w s ≡ cond (not (counts_right (layout_of w q))) Counts (cond (not (eqb (length s) (size_of (layout_of w q)))) (Length (size_of (layout_of w q))) (Sheet (layout_of w q)))
+    module _ {q : Quad} (e : short_line_of w s 0 ≡ Some q) where
+      after_header : header_of w s ≡ cond (not (counts_right (layout_of w q))) (Err Counts) (cond (not (eqb (length s) (size_of (layout_of w q)))) (Err (Length (size_of (layout_of w q)))) (Ok (layout_of w q)))
       unfolding header_of
       after_header = let x = short_numbers w s 0 e in rw (le-ltb (length s) (header_length w) h, x.0, x.1)
 
-      pub header_counts : counts_right (layout_of w q) ≡ false → Counts ≡ header_of w s
+      pub header_counts : counts_right (layout_of w q) ≡ false → Err Counts ≡ header_of w s
       header_counts c = rw (after_header, c)
 
       module _ (c : counts_right (layout_of w q) ≡ true) where
-        pub header_length_law : (length s ≡ size_of (layout_of w q) → ⊥) → Length (size_of (layout_of w q)) ≡ header_of w s
+        pub header_length_law : (length s ≡ size_of (layout_of w q) → ⊥) → Err (Length (size_of (layout_of w q))) ≡ header_of w s
         header_length_law n = rw (after_header, c, ne_eqb (length s) (size_of (layout_of w q)) n)
 
-        pub header_sheet : length s ≡ size_of (layout_of w q) → Sheet (layout_of w q) ≡ header_of w s
+        pub header_sheet : length s ≡ size_of (layout_of w q) → Ok (layout_of w q) ≡ header_of w s
         header_sheet n = rw (after_header, c, eq-eqb (length s) (size_of (layout_of w q)) n)

@@ -1,7 +1,7 @@
 -- Lines and ranges lie in the sheet; the column of depths; numbers are small.
+use Rattle.std.specs.Prelude.{Option, Some, None}
 use mathlib.Core.Path.{◌≡◌, refl, sym, ap, ◌∙◌}
-use mathlib.Core.Bool.{Bool, true, false}
-use mathlib.Core.List.{List, [], ◌∷◌}
+use mathlib.Core.Bool.{Bool, true}
 use Prim.Native.Nat.{ℕ, zero, suc, ◌+◌, ◌-◌, ◌*◌, ◌^◌, ◌≤◌, ◌<◌}
 use native.Mathlib.Nat.{mul-le-mul_left, pow-le-pow_right}
 use native.Mathlib.Omega.{arith}
@@ -13,12 +13,10 @@ use Rattle.common.specs.Bytes.{Bytes}
 use Rattle.common.proofs.Parts.{part_from}
 use Rattle.utf8.specs.Valid.{valid}
 use Rattle.sheet.specs.Columns.{field_of}
-use Rattle.sheet.specs.Layout.{node_length, attribute_length, node_start, attribute_start, pool_start, size_of, part_of, row_at, attribute_at, pool_of, range, depths_from, depths}
+use Rattle.sheet.specs.Layout.{node_length, attribute_length, node_start, attribute_start, pool_start, part_of, row_at, attribute_at, pool_of, range, depths_from, depths}
 use Rattle.sheet.specs.Lines.{field_at, number_in, number_at, row_from, attribute_from}
 use Rattle.sheet.specs.Notes.{Sized, WholePool, Whole}
 use Rattle.sheet.specs.Verdict.{inside}
-use Rattle.sheet.specs.declared.field.Field.{Field}
-use Rattle.sheet.specs.declared.field.Field.TheVariants.{Number, Bad}
 use Rattle.sheet.specs.declared.line.Layout.{Layout}
 use Rattle.sheet.proofs.ColumnsLaws.{field_below}
 use Rattle.sheet.proofs.ReadingColumns.{ten_positive}
@@ -62,9 +60,9 @@ module _ (s : Bytes) (l : Layout) where
   attribute_there j h = rw (lt-ltb j l.attributes h)
 
 -- a number in w columns is below 10 ^ w
-small_in : (f : Field) (k : ℕ) → 0 < k → ((n : ℕ) → f ≡ Number n → n < k) → number_in f < k
-small_in (Number n) k p h = h n refl
-small_in Bad k p h = p
+small_in : (f : Option ℕ) (k : ℕ) → 0 < k → ((n : ℕ) → f ≡ Some n → n < k) → number_in f < k
+small_in (Some n) k p h = h n refl
+small_in None k p h = p
 
 pub number_small : (w : ℕ) (s : Bytes) (at : ℕ) → number_at w s at < 10 ^ w
 unfolding field_at

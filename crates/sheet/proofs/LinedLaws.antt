@@ -1,4 +1,5 @@
 -- A line that is right has a number in each of its columns.
+use Rattle.std.specs.Prelude.{Option, Some, None}
 use mathlib.Core.Path.{◌≡◌, refl, sym, ap, ◌∙◌, subst}
 use mathlib.Core.Bool.{true}
 use Prim.Native.Nat.{ℕ, zero, suc, ◌+◌, ◌-◌, ◌*◌, ◌^◌, ◌≤◌, ◌<◌}
@@ -16,15 +17,13 @@ use Rattle.sheet.specs.Layout.{node_length, attribute_length, node_start, attrib
 use Rattle.sheet.specs.Lines.{is_number, field_at, numbers_right, after, line_right}
 use Rattle.sheet.specs.Notes.{Lined}
 use Rattle.sheet.specs.Verdict.{node_format, attribute_format}
-use Rattle.sheet.specs.declared.field.Field.{Field}
-use Rattle.sheet.specs.declared.field.Field.TheVariants.{Number, Bad}
 use Rattle.sheet.specs.declared.line.Layout.{Layout}
 use Rattle.sheet.proofs.ColumnsLaws.{reads_back}
 use Rattle.sheet.proofs.FirstWrong.{all_right}
 
-number_of : (f : Field) → is_number f ≡ true → (n : ℕ) × (f ≡ Number n)
-number_of (Number n) e = (n, refl)
-number_of Bad e = absurd_test e refl
+number_of : (f : Option ℕ) → is_number f ≡ true → (n : ℕ) × (f ≡ Some n)
+number_of (Some n) e = (n, refl)
+number_of None e = absurd_test e refl
 
 after_is : (w at k : ℕ) → after w at k ≡ at + k * w
 after_is w at zero = omega arith

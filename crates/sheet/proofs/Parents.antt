@@ -1,15 +1,14 @@
 -- Where all rows before it are right, a row's parent is an element unless the row just before it is its parent and is none.
+use Rattle.std.specs.Prelude.{Some}
 use mathlib.Core.Path.{◌≡◌, refl, sym, ap, ◌∙◌}
-use mathlib.Core.Bool.{Bool, true, false, ◌&&◌, cond}
-use mathlib.Core.List.{List}
-use mathlib.Core.Option.{Option, none, some}
-use Prim.Native.Nat.{ℕ, zero, suc, ◌+◌, ◌-◌, ◌≤◌, ◌<◌}
+use mathlib.Core.Bool.{true, ◌&&◌, cond}
+use Prim.Native.Nat.{ℕ, zero, suc, ◌-◌, ◌≤◌, ◌<◌}
 use native.Mathlib.Omega.{arith}
 use lib.Dec.{leb, eqb}
 use lib.ListN.{get_or}
 use borrow.Author.Tests.{leb-true, eqb-true, eqb-false, eq-eqb, ne_eqb}
 use Rattle.common.specs.Bytes.{Bytes}
-use Rattle.common.proofs.Choice.{by_test, and_parts, absurd_test}
+use Rattle.common.proofs.Choice.{by_test, and_parts}
 use Rattle.sheet.specs.Column.{last_above, parent_of}
 use Rattle.sheet.specs.Layout.{most_depth, row_at, pool_of, depths}
 use Rattle.sheet.specs.Notes.{later_right, tree_right}
@@ -60,7 +59,7 @@ module _ (s : Bytes) (l : Layout) where
       ap (is_element (row_at s l)) (above_next d k (omega arith) (λ z. omega arith)) ∙ elements_above k (omega arith) (λ j u. f j (omega arith)) d p lower)
 
   module _ (k : ℕ) (h : suc k < l.nodes) (f : (j : ℕ) → j ≤ k → node_tree s l j ≡ true) where
-    parent_before : (row_at s l (suc k)).depth ≡ suc (row_at s l k).depth → parent_of (depths s l) (suc k) ≡ some k
+    parent_before : (row_at s l (suc k)).depth ≡ suc (row_at s l k).depth → parent_of (depths s l) (suc k) ≡ Some k
     parent_before e =
         rw (eq-eqb (suc (get_or (depths s l) k 0)) (get_or (depths s l) (suc k) 0) (ap suc (depths_at s l k (omega arith)) ∙ sym e ∙ sym (depths_at s l (suc k) h)), last_above)
 

@@ -1,20 +1,18 @@
 -- Columns read from the left: spaces, the first digit, and the digits behind it.
+use Rattle.std.specs.Prelude.{Some, None}
 use mathlib.Core.Path.{◌≡◌, refl, sym, ap, ◌∙◌}
-use mathlib.Core.Bool.{Bool, true, false, cond}
 use mathlib.Core.List.{[], ◌∷◌}
-use Prim.Native.Nat.{ℕ, zero, suc, ◌+◌, ◌-◌, ◌*◌, ◌^◌, ◌≤◌, ◌<◌}
+use Prim.Native.Nat.{ℕ, suc, ◌+◌, ◌-◌, ◌*◌, ◌^◌, ◌≤◌, ◌<◌}
 use native.Mathlib.Nat.{pow-succ', pow-le-pow_right}
 use native.Mathlib.Numerals.{add-one}
 use native.Mathlib.Omega.{arith}
-use lib.Dec.{ltb, eqb, lit<}
-use lib.ListN.{length, get_or, take, drop, length-take, length-drop}
-use lib.Seq.{drop-cons, take-suc}
+use lib.Dec.{lit<}
+use lib.ListN.{length, get_or, take, drop}
+use lib.Seq.{drop-cons}
 use borrow.Author.Tests.{le-ltb, lt-ltb, eq-eqb, ne_eqb}
 use Rattle.common.specs.Bytes.{Bytes}
 use Rattle.sheet.specs.Columns.{Columns, Blank, Value, Broken, if_digit, next_column, columns_from, finish, field_of}
 use Rattle.sheet.specs.Reading.{Spaces}
-use Rattle.sheet.specs.declared.field.Field.{Field}
-use Rattle.sheet.specs.declared.field.Field.TheVariants.{Number, Bad}
 
 pub ten_positive : (i : ℕ) → 1 ≤ 10 ^ i
 ten_positive i = pow-le-pow_right {n = 10} (lit< tt) {i = 0} {j = i} (omega arith)
@@ -48,13 +46,13 @@ module _ (s : Bytes) (i end : ℕ) (fits : end ≤ length s) where
     digit_step : columns_from (Value n) (take (end - i) (drop i s)) ≡ columns_from (if_digit (get_or s i 0) (Value (10 * n + (get_or s i 0 - 48)))) (take (end - (i + 1)) (drop (i + 1) s))
     digit_step = step (Value n) h ∙ rw (ne_eqb n 0 (omega arith))
 
-    broken_digit : if_digit (get_or s i 0) (Value (10 * n + (get_or s i 0 - 48))) ≡ Broken → Bad ≡ finish (columns_from (Value n) (take (end - i) (drop i s)))
+    broken_digit : if_digit (get_or s i 0) (Value (10 * n + (get_or s i 0 - 48))) ≡ Broken → None ≡ finish (columns_from (Value n) (take (end - i) (drop i s)))
     broken_digit e = sym (ap finish (digit_step ∙ ap (λ (c : Columns). columns_from c rest) e ∙ broken_stays rest))
 
-    pub digit_low : get_or s i 0 < 48 → Bad ≡ finish (columns_from (Value n) (take (end - i) (drop i s)))
+    pub digit_low : get_or s i 0 < 48 → None ≡ finish (columns_from (Value n) (take (end - i) (drop i s)))
     digit_low k = broken_digit (simp (lt-ltb (get_or s i 0) 48 k))
 
-    pub digit_high : 48 ≤ get_or s i 0 → 57 < get_or s i 0 → Bad ≡ finish (columns_from (Value n) (take (end - i) (drop i s)))
+    pub digit_high : 48 ≤ get_or s i 0 → 57 < get_or s i 0 → None ≡ finish (columns_from (Value n) (take (end - i) (drop i s)))
     digit_high k m = broken_digit (simp (le-ltb (get_or s i 0) 48 k, lt-ltb 57 (get_or s i 0) m))
 
     pub digit_more : 48 ≤ get_or s i 0 → get_or s i 0 ≤ 57 → columns_from (Value (10 * n + (get_or s i 0 - 48))) (take (end - (i + 1)) (drop (i + 1) s)) ≡ columns_from (Value n) (take (end - i) (drop i s))
@@ -68,7 +66,7 @@ module _ (s : Bytes) (i end : ℕ) (fits : end ≤ length s) where
         let e : 19 - (end - (i + 1)) ≡ suc (19 - (end - i)) = omega arith in
         rw e (omega (arith, pow-succ' 10 (19 - (end - i))))
 
-  pub digits_done : (n : ℕ) → end ≤ i → Number n ≡ finish (columns_from (Value n) (take (end - i) (drop i s)))
+  pub digits_done : (n : ℕ) → end ≤ i → Some n ≡ finish (columns_from (Value n) (take (end - i) (drop i s)))
   digits_done n h = sym (ap (λ (t : Bytes). finish (columns_from (Value n) t)) (part_none h))
 
 -- ---- the whole field: what stands behind the spaces
@@ -78,7 +76,7 @@ module _ (s : Bytes) (at width i : ℕ) (fits : at + width ≤ length s) (p : Sp
   unfolding field_of
   field_from = let e : width ≡ at + width - at = omega arith in sym (ap finish (p.left ∙ ap (λ (k : ℕ). columns_from Blank (take k (drop at s))) (sym e)))
 
-  pub field_blank : i ≡ at + width → Bad ≡ field_of (take width (drop at s))
+  pub field_blank : i ≡ at + width → None ≡ field_of (take width (drop at s))
   field_blank e = sym (field_from ∙ ap (λ (t : Bytes). finish (columns_from Blank t)) (part_none s i (at + width) fits (omega arith)))
 
   module _ (n : i ≡ at + width → ⊥) where
@@ -88,15 +86,15 @@ module _ (s : Bytes) (at width i : ℕ) (fits : at + width ≤ length s) (p : Sp
     first_step : field_of (take width (drop at s)) ≡ finish (columns_from (if_digit (get_or s i 0) (Value (get_or s i 0 - 48))) (take (at + width - (i + 1)) (drop (i + 1) s)))
     first_step = field_from ∙ ap finish (step s i (at + width) fits Blank inside) ∙ rw (ne_eqb (get_or s i 0) 32 (p.no_space inside))
 
-    first_broken : if_digit (get_or s i 0) (Value (get_or s i 0 - 48)) ≡ Broken → Bad ≡ field_of (take width (drop at s))
+    first_broken : if_digit (get_or s i 0) (Value (get_or s i 0 - 48)) ≡ Broken → None ≡ field_of (take width (drop at s))
     first_broken e =
         sym (first_step ∙ ap (λ (c : Columns). finish (columns_from c (take (at + width - (i + 1)) (drop (i + 1) s)))) e ∙ ap finish (broken_stays (take (at + width - (i + 1)) (drop (i + 1) s))))
 
-    pub first_low : get_or s i 0 < 48 → Bad ≡ field_of (take width (drop at s))
+    pub first_low : get_or s i 0 < 48 → None ≡ field_of (take width (drop at s))
     first_low k = first_broken (simp (lt-ltb (get_or s i 0) 48 k))
 
     module _ (low : 48 ≤ get_or s i 0) where
-      pub first_high : 57 < get_or s i 0 → Bad ≡ field_of (take width (drop at s))
+      pub first_high : 57 < get_or s i 0 → None ≡ field_of (take width (drop at s))
       first_high m = first_broken (simp (le-ltb (get_or s i 0) 48 low, lt-ltb 57 (get_or s i 0) m))
 
       module _ (high : get_or s i 0 ≤ 57) where
@@ -106,10 +104,10 @@ module _ (s : Bytes) (at width i : ℕ) (fits : at + width ≤ length s) (p : Sp
         zero_first : get_or s i 0 ≡ 48 → finish (columns_from (Value 0) (take (at + width - (i + 1)) (drop (i + 1) s))) ≡ field_of (take width (drop at s))
         zero_first z = let e : get_or s i 0 - 48 ≡ 0 = omega (arith, z) in ap (λ (v : ℕ). finish (columns_from (Value v) (take (at + width - (i + 1)) (drop (i + 1) s)))) (sym e) ∙ first_digit
 
-        pub zero_alone : get_or s i 0 ≡ 48 → i + 1 ≡ at + width → Number 0 ≡ field_of (take width (drop at s))
+        pub zero_alone : get_or s i 0 ≡ 48 → i + 1 ≡ at + width → Some 0 ≡ field_of (take width (drop at s))
         zero_alone z e = digits_done s (i + 1) (at + width) fits 0 (omega arith) ∙ zero_first z
 
-        pub zero_leading : get_or s i 0 ≡ 48 → (i + 1 ≡ at + width → ⊥) → Bad ≡ field_of (take width (drop at s))
+        pub zero_leading : get_or s i 0 ≡ 48 → (i + 1 ≡ at + width → ⊥) → None ≡ field_of (take width (drop at s))
         zero_leading z m =
             sym (ap finish (step s (i + 1) (at + width) fits (Value 0) (omega (arith, m, inside)) ∙ broken_stays (take (at + width - (i + 1 + 1)) (drop (i + 1 + 1) s)))) ∙ zero_first z
 

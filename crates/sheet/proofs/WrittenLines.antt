@@ -1,4 +1,5 @@
 -- A line of four numbers that have room in their columns reads back as it was written.
+use Rattle.std.specs.Prelude.{Some}
 use mathlib.Core.Path.{◌≡◌, sym, ap, subst, ◌∙◌}
 use mathlib.Core.List.{◌∷◌, ◌++◌, append_assoc}
 use Prim.Native.Nat.{ℕ, ◌+◌, ◌^◌, ◌<◌}
@@ -9,8 +10,6 @@ use Rattle.common.specs.Bytes.{Bytes}
 use Rattle.sheet.specs.Columns.{columns, field_of}
 use Rattle.sheet.specs.Lines.{field_at, short_line_of}
 use Rattle.sheet.specs.Writing.{line, quad_line}
-use Rattle.sheet.specs.declared.field.Field.TheVariants.{Number}
-use Rattle.sheet.specs.declared.line.Four
 use Rattle.sheet.specs.declared.line.Quad.{Quad}
 use Rattle.sheet.proofs.ColumnsLaws.{reads_back}
 use Rattle.sheet.proofs.WritingColumns.{columns_length}
@@ -21,7 +20,7 @@ module _ (w : ℕ) (some : 0 < w) where
     columns_there : take w (drop at s) ≡ columns w n
     columns_there = ap (take w) e ∙ take_at (columns w n) t w (columns_length w n)
 
-    field_there : n < 10 ^ w → field_at w s at ≡ Number n
+    field_there : n < 10 ^ w → field_at w s at ≡ Some n
     unfolding field_at
     field_there h =
         let long = columns_length w n in
@@ -32,7 +31,7 @@ module _ (w : ℕ) (some : 0 < w) where
     behind_there = sym (drop-drop w at s) ∙ ap (drop w) e ∙ drop_at (columns w n) t w (columns_length w n)
 
   module _ (q : Quad) (a : q.first < 10 ^ w) (b : q.second < 10 ^ w) (c : q.third < 10 ^ w) (d : q.fourth < 10 ^ w) where
-    pub line_reads_back : (rest : Bytes) → short_line_of w (quad_line w q ++ rest) 0 ≡ Four.TheVariants.Numbers q
+    pub line_reads_back : (rest : Bytes) → short_line_of w (quad_line w q ++ rest) 0 ≡ Some q
     unfolding short_line_of line
     line_reads_back rest =
         let s = quad_line w q ++ rest in

@@ -1,6 +1,5 @@
 -- What an accepted sheet is, in document 01's sentences: the facts that its readers may use.
-use Rattle.std.specs.Prelude.{◌≡◌, true, ◌⊎◌, ℕ, suc, ◌+◌, ◌*◌, ◌≤◌, ◌<◌, get_or}
-use Rattle.std.proofs.Math.Option.{some}
+use Rattle.std.specs.Prelude.{◌≡◌, true, ◌⊎◌, ℕ, suc, ◌+◌, ◌*◌, ◌≤◌, ◌<◌, get_or, Some}
 use Rattle.common.specs.Bytes.{Bytes, codes}
 use Rattle.utf8.specs.Valid.{valid}
 use Rattle.sheet.specs.Column.{parent_of}
@@ -33,7 +32,7 @@ module _ (s : Bytes) (l : Layout) where
     pub some_depth : 1 ≤ (row_at s l (suc i)).depth
     pub depth_within : (row_at s l (suc i)).depth ≤ most_depth
     pub no_jump : (row_at s l (suc i)).depth ≤ suc (row_at s l i).depth
-    pub parent : (j : ℕ) × (parent_of (depths s l) (suc i) ≡ some j) × ((row_at s l j).kind ≡ 1)
+    pub parent : (j : ℕ) × (parent_of (depths s l) (suc i) ≡ Some j) × ((row_at s l j).kind ≡ 1)
 
   pub record Accepted : Type 0 where
     pub sized : Sized s l

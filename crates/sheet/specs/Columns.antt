@@ -1,8 +1,6 @@
 -- A number in columns: "Every number is decimal, right-justified with spaces in 8 columns, no leading zero; zero is one 0" (document 01).
-use Rattle.std.specs.Prelude.{◌≡◌, cond, [], ◌∷◌, ◌++◌, ◌↔◌, ℕ, zero, suc, ◌+◌, ◌-◌, ◌*◌, ◌/◌, ◌%◌, ◌^◌, ◌<◌, ltb, eqb, length, take, drop, replicate}
+use Rattle.std.specs.Prelude.{◌≡◌, Option, None, Some, cond, [], ◌∷◌, ◌++◌, ◌↔◌, ℕ, zero, suc, ◌+◌, ◌-◌, ◌*◌, ◌/◌, ◌%◌, ◌^◌, ◌<◌, ltb, eqb, length, take, drop, replicate}
 use Rattle.common.specs.Bytes.{Bytes}
-use Rattle.sheet.specs.declared.field.Field.{Field}
-use Rattle.sheet.specs.declared.field.Field.TheVariants.{Number, Bad}
 
 -- n in w columns: its last digit, and before it the digits of n / 10 in one column less, or spaces where there are none
 unfoldable pub columns : ℕ → ℕ → Bytes
@@ -36,14 +34,14 @@ abbrev pub columns_from : Columns → Bytes → Columns
 columns_from c [] = c
 columns_from c (b ∷ s) = columns_from (next_column c b) s
 
-abbrev pub finish : Columns → Field
-finish Blank = Bad
-finish (Value n) = Number n
-finish Broken = Bad
+abbrev pub finish : Columns → Option ℕ
+finish Blank = None
+finish (Value n) = Some n
+finish Broken = None
 
-unfoldable pub field_of : Bytes → Field
+unfoldable pub field_of : Bytes → Option ℕ
 field_of s = finish (columns_from Blank s)
 
 -- a number in columns reads back as written, and in one form only, for any width that holds it
 abbrev pub ReadsBack : Type 0
-ReadsBack = (s : Bytes) (n : ℕ) → (field_of s ≡ Number n) ↔ ((s ≡ columns (length s) n) × (0 < length s) × (n < 10 ^ length s))
+ReadsBack = (s : Bytes) (n : ℕ) → (field_of s ≡ Some n) ↔ ((s ≡ columns (length s) n) × (0 < length s) × (n < 10 ^ length s))

@@ -1,7 +1,7 @@
 -- Where the lines of a sheet stand (document 01, "The sheet"): header, node lines, attribute lines, pool.
 use Rattle.std.specs.Prelude.{cond, List, [], ◌∷◌, ℕ, zero, suc, ◌+◌, ◌*◌, ltb, take, drop}
 use Rattle.common.specs.Bytes.{Bytes}
-use Rattle.sheet.specs.Lines.{quad_from, row_from, attribute_from}
+use Rattle.sheet.specs.Lines.{row_from, attribute_from}
 use Rattle.sheet.specs.declared.line.Attribute.{Attribute}
 use Rattle.sheet.specs.declared.line.Layout.{Layout}
 use Rattle.sheet.specs.declared.line.Quad.{Quad}

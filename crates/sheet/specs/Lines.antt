@@ -1,29 +1,22 @@
 -- The lines of a sheet (document 01, "The sheet"), for numbers of any width w: document 01's sheets have 8.
-use Rattle.std.specs.Prelude.{Bool, true, false, ◌&&◌, cond, ℕ, zero, suc, ◌+◌, ◌*◌, eqb, get_or, take, drop}
+use Rattle.std.specs.Prelude.{unwrap_or, Option, None, Some, Bool, true, false, ◌&&◌, cond, ℕ, zero, suc, ◌+◌, eqb, get_or, take, drop}
 use Rattle.common.specs.Bytes.{Bytes}
 use Rattle.sheet.specs.Columns.{field_of}
-use Rattle.sheet.specs.declared.field.Field.{Field}
-use Rattle.sheet.specs.declared.field.Field.TheVariants.{Number, Bad}
 use Rattle.sheet.specs.declared.line.Attribute.{Attribute}
-use Rattle.sheet.specs.declared.line.Four.{Four}
-use Rattle.sheet.specs.declared.line.Four
-use Rattle.sheet.specs.declared.line.NodeLine.{NodeLine}
-use Rattle.sheet.specs.declared.line.NodeLine
 use Rattle.sheet.specs.declared.line.Quad.{Quad}
 use Rattle.sheet.specs.declared.line.Row.{Row}
 
 -- ---- numbers, one after the other
 
-abbrev pub is_number : Field → Bool
-is_number (Number n) = true
-is_number Bad = false
+abbrev pub is_number : Option ℕ → Bool
+is_number (Some n) = true
+is_number None = false
 
 -- the number of a field, 0 where it holds none
-abbrev pub number_in : Field → ℕ
-number_in (Number n) = n
-number_in Bad = 0
+abbrev pub number_in : Option ℕ → ℕ
+number_in v = unwrap_or v 0
 
-unfoldable pub field_at : ℕ → Bytes → ℕ → Field
+unfoldable pub field_at : ℕ → Bytes → ℕ → Option ℕ
 field_at w s at = field_of (take w (drop at s))
 
 abbrev pub number_at : ℕ → Bytes → ℕ → ℕ
@@ -71,11 +64,11 @@ attribute_of x = record { name_at = x.first; name_len = x.second; value_at = x.t
 abbrev pub attribute_from : ℕ → Bytes → ℕ → Attribute
 attribute_from w s at = attribute_of (quad_from w s at)
 
-unfoldable pub four_of : ℕ → Bytes → ℕ → Four
-four_of w s at = cond (numbers_right w s at 4) (Four.TheVariants.Numbers (quad_from w s at)) Four.TheVariants.Bad
+unfoldable pub four_of : ℕ → Bytes → ℕ → Option Quad
+four_of w s at = cond (numbers_right w s at 4) (Some (quad_from w s at)) None
 
-unfoldable pub short_line_of : ℕ → Bytes → ℕ → Four
-short_line_of w s at = cond (line_right w s at 4) (Four.TheVariants.Numbers (quad_from w s at)) Four.TheVariants.Bad
+unfoldable pub short_line_of : ℕ → Bytes → ℕ → Option Quad
+short_line_of w s at = cond (line_right w s at 4) (Some (quad_from w s at)) None
 
-unfoldable pub node_line_of : ℕ → Bytes → ℕ → NodeLine
-node_line_of w s at = cond (line_right w s at 8) (NodeLine.TheVariants.Numbers (row_from w s at)) NodeLine.TheVariants.Bad
+unfoldable pub node_line_of : ℕ → Bytes → ℕ → Option Row
+node_line_of w s at = cond (line_right w s at 8) (Some (row_from w s at)) None

@@ -1,37 +1,20 @@
 -- What the passes over the lines note: the first line at fault of each stage.
-use Rattle.std.specs.Prelude.{◌≡◌, Bool, true, false, ◌&&◌, cond, ℕ, zero, suc, ◌+◌, ◌≤◌, ◌<◌, leb, eqb, length}
-use Rattle.std.proofs.Math.Option.{Option, none, some}
+use Rattle.std.specs.Prelude.{is_none, Result, Ok, Err, ◌≡◌, Bool, true, false, ◌&&◌, cond, ℕ, zero, suc, ◌+◌, ◌≤◌, ◌<◌, leb, eqb, length, Option, None, Some}
 use Rattle.common.specs.Bytes.{Bytes}
 use Rattle.utf8.specs.Valid.{valid}
 use Rattle.sheet.specs.Layout.{size_of, most_rows, most_attributes, most_depth, pool_limit, layout_of, row_at, pool_of}
 use Rattle.sheet.specs.Lines.{line_right, quad_from, attribute_of, node_line_of}
 use Rattle.sheet.specs.Verdict.{kind_right, row_ranges, row_texts, attribute_ranges, attribute_texts, body_right, nodes, node_format, node_kind, node_tree, node_range, node_text, counts_from, attributes, attribute_format, attribute_range, attribute_text}
 use Rattle.sheet.specs.declared.line.Layout.{Layout}
-use Rattle.sheet.specs.declared.line.NodeLine.{NodeLine}
-use Rattle.sheet.specs.declared.line.NodeLine
 use Rattle.sheet.specs.declared.line.Quad.{Quad}
 use Rattle.sheet.specs.declared.line.Row.{Row}
 use Rattle.sheet.specs.declared.notes.AttributeNotes.{AttributeNotes}
-use Rattle.sheet.specs.declared.notes.AttributesRead.{AttributesRead}
-use Rattle.sheet.specs.declared.notes.AttributesRead
 use Rattle.sheet.specs.declared.notes.Notes.{Notes}
-use Rattle.sheet.specs.declared.notes.NodesRead.{NodesRead}
-use Rattle.sheet.specs.declared.notes.NodesRead.TheVariants.{Noted, Bad}
-use Rattle.sheet.specs.declared.verdict.Found.{Found}
-use Rattle.sheet.specs.declared.verdict.Found.TheVariants.{At, Nothing}
 
-abbrev pub found_of : Option ℕ → Found
-found_of none = Nothing
-found_of (some i) = At i
-
-abbrev pub is_nothing : Found → Bool
-is_nothing (At i) = false
-is_nothing Nothing = true
-
-abbrev pub note_of : Found → Bool → ℕ → Found
-note_of (At j) right i = At j
-note_of Nothing true i = Nothing
-note_of Nothing false i = At i
+abbrev pub note_of : Option ℕ → Bool → ℕ → Option ℕ
+note_of (Some j) right i = Some j
+note_of None true i = None
+note_of None false i = Some i
 
 -- a header that is right, and a length that is what it says
 pub record Sized (s : Bytes) (l : Layout) : Type 0 where
@@ -71,15 +54,15 @@ unfoldable pub row_right : Bytes → ℕ → Row → Row → Bool
 row_right pool i before r = kind_right r && (tree_right pool i before r && row_texts pool r)
 
 -- a line as row i, where it is right and its attributes, behind `first` others, are there
-abbrev pub right_line : Bytes → Layout → ℕ → Row → ℕ → NodeLine → NodeLine
-right_line s l i before first (NodeLine.TheVariants.Numbers r) =
+abbrev pub right_line : Bytes → Layout → ℕ → Row → ℕ → Option Row → Option Row
+right_line s l i before first (Some r) =
     cond (row_right (pool_of s l) i before r && leb (first + r.attributes) l.attributes)
-    (NodeLine.TheVariants.Numbers r)
-    NodeLine.TheVariants.Bad
-right_line s l i before first NodeLine.TheVariants.Bad = NodeLine.TheVariants.Bad
+    (Some r)
+    None
+right_line s l i before first None = None
 
 -- the line at `at`
-unfoldable pub row_in : Bytes → Layout → ℕ → Row → ℕ → ℕ → NodeLine
+unfoldable pub row_in : Bytes → Layout → ℕ → Row → ℕ → ℕ → Option Row
 row_in s l i before at first = right_line s l i before first (node_line_of l.width s at)
 
 -- the notes with row i's
@@ -97,15 +80,15 @@ note_row pool n i before r =
 abbrev pub nodes_notes : Bytes → Layout → Notes
 nodes_notes s l =
     record {
-      kind = found_of (nodes s l (node_kind s l));
-      tree = found_of (nodes s l (node_tree s l));
-      range = found_of (nodes s l (node_range s l));
-      encoding = found_of (nodes s l (node_text s l));
+      kind = nodes s l (node_kind s l);
+      tree = nodes s l (node_tree s l);
+      range = nodes s l (node_range s l);
+      encoding = nodes s l (node_text s l);
       counts = counts_from s l 0 l.nodes;
     }
 
-unfoldable pub nodes_read : Bytes → Layout → NodesRead
-nodes_read s l = elim (nodes s l (node_format s l)) [ none ↦ Noted (nodes_notes s l) | some i ↦ Bad i ]
+unfoldable pub nodes_read : Bytes → Layout → Result Notes ℕ
+nodes_read s l = elim (nodes s l (node_format s l)) [ None ↦ Ok (nodes_notes s l) | Some i ↦ Err i ]
 
 -- the notes with attribute line j's
 unfoldable pub note_attribute : Bytes → AttributeNotes → ℕ → Quad → AttributeNotes
@@ -117,19 +100,19 @@ note_attribute pool n j q =
 
 -- what the pass over the attribute lines gives
 abbrev pub attributes_notes : Bytes → Layout → AttributeNotes
-attributes_notes s l = record { range = found_of (attributes s l (attribute_range s l)); encoding = found_of (attributes s l (attribute_text s l)) }
+attributes_notes s l = record { range = attributes s l (attribute_range s l); encoding = attributes s l (attribute_text s l) }
 
-unfoldable pub attributes_read : Bytes → Layout → AttributesRead
+unfoldable pub attributes_read : Bytes → Layout → Result AttributeNotes ℕ
 attributes_read s l =
     elim (attributes s l (attribute_format s l)) [
-      | none ↦ AttributesRead.TheVariants.Noted (attributes_notes s l)
-      | some j ↦ AttributesRead.TheVariants.Bad j
+      | None ↦ Ok (attributes_notes s l)
+      | Some j ↦ Err j
     ]
 
 -- every line has the right format
 pub record Formatted (s : Bytes) (l : Layout) : Type 0 where
-  pub of_nodes : nodes s l (node_format s l) ≡ none
-  pub of_attributes : attributes s l (attribute_format s l) ≡ none
+  pub of_nodes : nodes s l (node_format s l) ≡ None
+  pub of_attributes : attributes s l (attribute_format s l) ≡ None
 
 -- right lines and length, whatever the numbers say: 11 and 12 do not refuse s
 pub record Lined (s : Bytes) (l : Layout) : Type 0 where
@@ -138,10 +121,6 @@ pub record Lined (s : Bytes) (l : Layout) : Type 0 where
   pub layout : l ≡ layout_of l.width (quad_from l.width s 0)
   pub size : length s ≡ size_of l
   pub formats : Formatted s l
-
-abbrev pub is_none : Option ℕ → Bool
-is_none none = true
-is_none (some i) = false
 
 -- no attribute line is at fault
 unfoldable pub attributes_right : Bytes → Layout → Bool

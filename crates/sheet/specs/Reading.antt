@@ -2,8 +2,6 @@
 use Rattle.std.specs.Prelude.{◌≡◌, [], ◌∷◌, ℕ, ◌+◌, ◌-◌, ◌*◌, ◌%◌, ◌≤◌, ◌<◌, get_or, take, drop}
 use Rattle.common.specs.Bytes.{Bytes}
 use Rattle.sheet.specs.Columns.{Blank, columns_from}
-use Rattle.sheet.specs.declared.field.Field.{Field}
-use Rattle.sheet.specs.declared.field.Field.TheVariants.{Number, Bad}
 
 -- only spaces stand from `at` up to `place`, and no space at it, unless it is the end
 pub record Spaces (s : Bytes) (at end place : ℕ) : Type 0 where
@@ -11,11 +9,6 @@ pub record Spaces (s : Bytes) (at end place : ℕ) : Type 0 where
   pub to : place ≤ end
   pub left : columns_from Blank (take (end - place) (drop place s)) ≡ columns_from Blank (take (end - at) (drop at s))
   pub no_space : place < end → get_or s place 0 ≡ 32 → ⊥
-
--- what eight columns hold: a number, which is below 10 ^ 8, or that where there is none
-abbrev pub in_eight : Field → ℕ
-in_eight (Number n) = n
-in_eight Bad = 100000000
 
 -- the number n with the digits behind it: a space is 32, the digit d is 48 + d
 unfoldable pub plain_from : ℕ → Bytes → ℕ

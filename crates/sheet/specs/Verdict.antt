@@ -1,6 +1,5 @@
 -- What is wrong with a sheet (document 01, "Who can cause which number", 11 to 17), stage by stage in its order.
-use Rattle.std.specs.Prelude.{Bool, true, false, ◌&&◌, ◌||◌, not, cond, List, ℕ, zero, suc, ◌+◌, leb, ltb, eqb, length}
-use Rattle.std.proofs.Math.Option.{Option, none, some}
+use Rattle.std.specs.Prelude.{Bool, true, false, ◌&&◌, ◌||◌, not, cond, List, ℕ, zero, suc, ◌+◌, leb, ltb, eqb, length, Option, None, Some, Result, Ok, Err}
 use Rattle.common.specs.Answer.{Answer, refused, written}
 use Rattle.common.specs.Bytes.{Bytes, codes, same}
 use Rattle.common.specs.Refusals.{wrong_length, wrong_format, wrong_counts, wrong_tree, wrong_kind, wrong_range, not_utf8}
@@ -11,18 +10,18 @@ use Rattle.sheet.specs.Lines.{line_right, quad_from}
 use Rattle.sheet.specs.declared.line.Attribute.{Attribute}
 use Rattle.sheet.specs.declared.line.Layout.{Layout}
 use Rattle.sheet.specs.declared.line.Row.{Row}
-use Rattle.sheet.specs.declared.verdict.Verdict.{Verdict}
-use Rattle.sheet.specs.declared.verdict.Verdict.TheVariants.{Sheet, Length, Format, Counts, Kind, Tree, Range, Encoding}
+use Rattle.sheet.specs.declared.verdict.SheetError.{SheetError}
+use Rattle.sheet.specs.declared.verdict.SheetError.TheVariants.{Length, Format, Counts, Kind, Tree, Range, Encoding}
 
 -- the first of n lines from line i on that is not right
 abbrev pub first_wrong : (ℕ → Bool) → ℕ → ℕ → Option ℕ
-first_wrong right i zero = none
-first_wrong right i (suc n) = elim (right i) [ false ↦ some i | true ↦ first_wrong right (suc i) n ]
+first_wrong right i zero = None
+first_wrong right i (suc n) = elim (right i) [ false ↦ Some i | true ↦ first_wrong right (suc i) n ]
 
 -- a stage over lines: refused at the first line that is not right
-abbrev pub stage : Option ℕ → (ℕ → Verdict) → Verdict → Verdict
-stage (some i) refuse next = refuse i
-stage none refuse next = next
+abbrev pub stage : Option ℕ → (ℕ → SheetError) → Result Layout SheetError → Result Layout SheetError
+stage (Some i) refuse next = Err (refuse i)
+stage None refuse next = next
 
 -- "N 1 to 20,000; A to 60,000; P to 4,194,304", and "root not below N"
 unfoldable pub counts_right : Layout → Bool
@@ -78,8 +77,8 @@ module _ (pool : Bytes) where
 -- ---- a row's place in the tree, by the rows and the column of their depths
 
 abbrev pub is_element : (ℕ → Row) → Option ℕ → Bool
-is_element row none = false
-is_element row (some j) = eqb (row j).kind 1
+is_element row None = false
+is_element row (Some j) = eqb (row j).kind 1
 
 -- "a later depth is 0, above 500 or more than one above the row before; a parent is not an element"
 abbrev pub place_right : Bytes → (ℕ → Row) → List ℕ → ℕ → Bool
@@ -138,7 +137,7 @@ module _ (s : Bytes) (l : Layout) where
   attribute_line j = l.nodes + j + 1
 
   -- 12 to 17, over a sheet whose header is right and whose length is what the header says
-  unfoldable pub judged : Verdict
+  unfoldable pub judged : Result Layout SheetError
   judged =
       -- 12
       stage (nodes node_format) (λ i. Format (node_line i))
@@ -147,61 +146,58 @@ module _ (s : Bytes) (l : Layout) where
       (stage (nodes node_kind) (λ i. Kind (node_line i))
       -- 14, "root not an element (line 0, last)"
       (stage (nodes node_tree) (λ i. Tree (node_line i))
-      (cond (not (eqb (row_at s l l.root).kind 1)) (Tree 0)
+      (cond (not (eqb (row_at s l l.root).kind 1)) (Err (Tree 0))
       -- 16, "then attribute counts not summing to A (line 0)"
       (stage (nodes node_range) (λ i. Range (node_line i))
       (stage (attributes attribute_range) (λ j. Range (attribute_line j))
-      (cond (not (eqb (counts_from 0 l.nodes) l.attributes)) (Range 0)
+      (cond (not (eqb (counts_from 0 l.nodes) l.attributes)) (Err (Range 0))
       -- 17
       (stage (nodes node_text) (λ i. Encoding (node_line i))
       (stage (attributes attribute_text) (λ j. Encoding (attribute_line j))
-      (Sheet l))))))))))
+      (Ok l))))))))))
 
 -- the whole verdict on a byte string, for numbers of width w
-unfoldable pub verdict_of : ℕ → Bytes → Verdict
+unfoldable pub verdict_of : ℕ → Bytes → Result Layout SheetError
 verdict_of w s =
     let l = layout_of w (quad_from w s 0) in
     -- 11, "shorter than 33 bytes (second number 33)"
-    cond (ltb (length s) (header_length w)) (Length (header_length w))
+    cond (ltb (length s) (header_length w)) (Err (Length (header_length w)))
     -- "Header fields or its line end: 12"
-    (cond (not (line_right w s 0 4)) (Format 0)
+    (cond (not (line_right w s 0 4)) (Err (Format 0))
     -- "Counts out of range, or root not below N: 13"
-    (cond (not (counts_right l)) Counts
+    (cond (not (counts_right l)) (Err Counts)
     -- "Then 11 again: length is not 33 + 65·N + 33·A + P (second number: that sum)"
-    (cond (not (eqb (length s) (size_of l))) (Length (size_of l))
+    (cond (not (eqb (length s) (size_of l))) (Err (Length (size_of l)))
     (judged s l))))
 
 -- the verdict on a byte string: a sheet's numbers stand "in 8 columns"
-abbrev pub verdict : Bytes → Verdict
+abbrev pub verdict : Bytes → Result Layout SheetError
 verdict s = verdict_of 8 s
 
 -- the same up to the lines: the layout, where the header is right and the length is what it says
-unfoldable pub header_of : ℕ → Bytes → Verdict
+unfoldable pub header_of : ℕ → Bytes → Result Layout SheetError
 header_of w s =
     let l = layout_of w (quad_from w s 0) in
-    cond (ltb (length s) (header_length w)) (Length (header_length w))
-    (cond (not (line_right w s 0 4)) (Format 0)
-    (cond (not (counts_right l)) Counts
-    (cond (not (eqb (length s) (size_of l))) (Length (size_of l))
-    (Sheet l))))
+    cond (ltb (length s) (header_length w)) (Err (Length (header_length w)))
+    (cond (not (line_right w s 0 4)) (Err (Format 0))
+    (cond (not (counts_right l)) (Err Counts)
+    (cond (not (eqb (length s) (size_of l))) (Err (Length (size_of l)))
+    (Ok l))))
 
-abbrev pub is_sheet : Verdict → Bool
-is_sheet (Sheet l) = true
-is_sheet (Length n) = false
-is_sheet (Format n) = false
-is_sheet Counts = false
-is_sheet (Kind n) = false
-is_sheet (Tree n) = false
-is_sheet (Range n) = false
-is_sheet (Encoding n) = false
+abbrev pub is_sheet : Result Layout SheetError → Bool
+is_sheet (Ok l) = true
+is_sheet (Err e) = false
 
 -- the numbers of each case
-abbrev pub numbers : Verdict → Answer
-numbers (Sheet l) = written 0
-numbers (Length n) = refused wrong_length n
-numbers (Format line) = refused wrong_format line
-numbers Counts = refused wrong_counts 0
-numbers (Tree line) = refused wrong_tree line
-numbers (Kind line) = refused wrong_kind line
-numbers (Range line) = refused wrong_range line
-numbers (Encoding line) = refused not_utf8 line
+abbrev pub refusal : SheetError → Answer
+refusal (Length n) = refused wrong_length n
+refusal (Format line) = refused wrong_format line
+refusal Counts = refused wrong_counts 0
+refusal (Tree line) = refused wrong_tree line
+refusal (Kind line) = refused wrong_kind line
+refusal (Range line) = refused wrong_range line
+refusal (Encoding line) = refused not_utf8 line
+
+abbrev pub numbers : Result Layout SheetError → Answer
+numbers (Ok l) = written 0
+numbers (Err e) = refusal e

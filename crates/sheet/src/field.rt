@@ -1,104 +1,93 @@
 // Numbers in columns.
 ghost use Rattle.std.specs.Prelude.{◌≡◌, ◌+◌, ◌-◌, ◌^◌, ◌<◌, ◌≤◌, drop, length, take};
 ghost use Rattle.sheet.specs.Columns.{Value, columns_from, field_of, finish};
-ghost use Rattle.sheet.specs.Reading.{Spaces, in_eight};
-
-// What columns hold.
-#[derive(Clone, Copy)]
-pub enum Field {
-    Number(usize),
-    Bad,
-}
+ghost use Rattle.sheet.specs.Reading.{Spaces};
 
 // The first place from at on that holds no space, or end.
 fn skip_spaces(s: &[u8], at: usize, end: usize) -> usize
     requires { (at ≤ end) × (end ≤ length s.now) }
     ensures { Spaces s.now at end result }
 {
-    let mut i = at;
-    while i < end {
-        if s[i] != 32 {
+    for i in at..end {
+        if s[i] != b' ' {
             return i;
         }
-        i += 1;
     }
-    i
+    end
 }
 
 // The number n with the digits up to end behind it.
-fn more_digits(s: &[u8], at: usize, end: usize, n: usize) -> Field
+fn more_digits(s: &[u8], at: usize, end: usize, n: usize) -> Option<usize>
     requires { (at ≤ end) × (end ≤ length s.now) × (end - at ≤ 18) × (0 < n) × (n < 10 ^ (19 - (end - at))) }
     ensures { result ≡ finish (columns_from (Value n) (take (end - at) (drop at s.now))) }
 {
     let mut n = n;
-    let mut i = at;
-    while i < end {
+    for i in at..end {
         let b = s[i];
-        if b < 48 {
-            return Field::Bad;
+        if b < b'0' {
+            return None;
         }
-        if b > 57 {
-            return Field::Bad;
+        if b > b'9' {
+            return None;
         }
-        n = 10 * n + (b - 48) as usize;
-        i += 1;
+        n = 10 * n + usize::from(b - b'0');
     }
-    Field::Number(n)
+    Some(n)
 }
 
 // The number in the width columns at at: spaces, then its digits; nothing follows a 0.
-pub fn read_field(s: &[u8], at: usize, width: usize) -> Field
+pub fn read_field(s: &[u8], at: usize, width: usize) -> Option<usize>
     requires { (at + width ≤ length s.now) × (width ≤ 19) }
     ensures { result ≡ field_of (take width (drop at s.now)) }
 {
     let end = at + width;
     let i = skip_spaces(s, at, end);
     if i == end {
-        return Field::Bad;
+        return None;
     }
     let b = s[i];
-    if b < 48 {
-        return Field::Bad;
+    if b < b'0' {
+        return None;
     }
-    if b > 57 {
-        return Field::Bad;
+    if b > b'9' {
+        return None;
     }
     let next = i + 1;
-    if b == 48 {
+    if b == b'0' {
         if next == end {
-            return Field::Number(0);
+            return Some(0);
         }
-        return Field::Bad;
+        return None;
     }
-    more_digits(s, next, end, (b - 48) as usize)
+    more_digits(s, next, end, usize::from(b - b'0'))
 }
 
-// The number in the eight columns at at, or 10 ^ 8: a number in a register.
-fn eight_columns(s: &[u8], at: usize) -> usize
+// The same in eight columns, by one look where there is one digit behind seven spaces, as in most.
+fn read_eight(s: &[u8], at: usize) -> Option<usize>
     requires { at + 8 ≤ length s.now }
-    ensures { result ≡ in_eight (field_of (take 8 (drop at s.now))) }
-{
-    match read_field(s, at, 8) {
-        Field::Number(n) => n,
-        Field::Bad => 100000000,
-    }
-}
-
-// The same, by one look where there is one digit behind seven spaces, as in most columns.
-pub fn read_eight(s: &[u8], at: usize) -> usize
-    requires { at + 8 ≤ length s.now }
-    ensures { result ≡ in_eight (field_of (take 8 (drop at s.now))) }
+    ensures { result ≡ field_of (take 8 (drop at s.now)) }
 {
     let w = common::word_at(s, at);
     if w % 0x100000000000000 != 0x20202020202020 {
-        return eight_columns(s, at);
+        return read_field(s, at, 8);
     }
     let b = w / 0x100000000000000;
     if b < 48 {
-        return 100000000;
+        return None;
     }
     if b > 57 {
-        return 100000000;
+        return None;
     }
-    b - 48
+    Some(b - 48)
+}
+
+// The same, for any width.
+pub fn read_number(s: &[u8], at: usize, width: usize) -> Option<usize>
+    requires { (at + width ≤ length s.now) × (width ≤ 19) }
+    ensures { result ≡ field_of (take width (drop at s.now)) }
+{
+    if width == 8 {
+        return read_eight(s, at);
+    }
+    read_field(s, at, width)
 }

@@ -2,7 +2,7 @@
 ghost use Rattle.std.specs.Prelude.{◌≡◌, ◌+◌, ◌*◌, ◌≤◌, ◌<◌, length};
 ghost use Rattle.sheet.specs.Lines.{four_of, node_line_of, row_of, short_line_of};
 
-use crate::field::{Field, read_eight, read_field};
+use crate::field::read_number;
 
 // What the header says, and the width of a number.
 #[derive(Clone, Copy)]
@@ -45,95 +45,33 @@ pub struct Quad {
     pub fourth: usize,
 }
 
-#[derive(Clone, Copy)]
-pub enum Four {
-    Numbers(Quad),
-    Bad,
-}
-
-#[derive(Clone, Copy)]
-pub enum NodeLine {
-    Numbers(Row),
-    Bad,
-}
-
-fn four_columns(s: &[u8], at: usize, width: usize) -> Four
+pub fn read_four(s: &[u8], at: usize, width: usize) -> Option<Quad>
     requires { (at + 4 * width ≤ length s.now) × (width ≤ 19) }
     ensures { result ≡ four_of width s.now at }
 {
-    let Field::Number(first) = read_field(s, at, width) else {
-        return Four::Bad;
-    };
+    let first = read_number(s, at, width)?;
     let at1 = at + width;
-    let Field::Number(second) = read_field(s, at1, width) else {
-        return Four::Bad;
-    };
+    let second = read_number(s, at1, width)?;
     let at2 = at1 + width;
-    let Field::Number(third) = read_field(s, at2, width) else {
-        return Four::Bad;
-    };
+    let third = read_number(s, at2, width)?;
     let at3 = at2 + width;
-    let Field::Number(fourth) = read_field(s, at3, width) else {
-        return Four::Bad;
-    };
-    Four::Numbers(Quad {
+    let fourth = read_number(s, at3, width)?;
+    Some(Quad {
         first,
         second,
         third,
         fourth,
     })
-}
-
-// Four numbers in eight columns each.
-fn four_eights(s: &[u8], at: usize) -> Four
-    requires { at + 32 ≤ length s.now }
-    ensures { result ≡ four_of 8 s.now at }
-{
-    let first = read_eight(s, at);
-    if first > 99999999 {
-        return Four::Bad;
-    }
-    let at1 = at + 8;
-    let second = read_eight(s, at1);
-    if second > 99999999 {
-        return Four::Bad;
-    }
-    let at2 = at1 + 8;
-    let third = read_eight(s, at2);
-    if third > 99999999 {
-        return Four::Bad;
-    }
-    let at3 = at2 + 8;
-    let fourth = read_eight(s, at3);
-    if fourth > 99999999 {
-        return Four::Bad;
-    }
-    Four::Numbers(Quad {
-        first,
-        second,
-        third,
-        fourth,
-    })
-}
-
-pub fn read_four(s: &[u8], at: usize, width: usize) -> Four
-    requires { (at + 4 * width ≤ length s.now) × (width ≤ 19) }
-    ensures { result ≡ four_of width s.now at }
-{
-    if width == 8 {
-        return four_eights(s, at);
-    }
-    four_columns(s, at, width)
 }
 
 // Four numbers and LF: the header, or an attribute line.
-pub fn read_short_line(s: &[u8], at: usize, width: usize) -> Four
+pub fn read_short_line(s: &[u8], at: usize, width: usize) -> Option<Quad>
     requires { (at + 4 * width + 1 ≤ length s.now) × (width ≤ 19) }
     ensures { result ≡ short_line_of width s.now at }
 {
     let end = at + width + width + width + width;
     if s[end] != 10 {
-        return Four::Bad;
+        return None;
     }
     read_four(s, at, width)
 }
@@ -154,20 +92,16 @@ pub fn row_of(x: Quad, y: Quad) -> Row
 }
 
 // Eight numbers and LF.
-pub fn read_node_line(s: &[u8], at: usize, width: usize) -> NodeLine
+pub fn read_node_line(s: &[u8], at: usize, width: usize) -> Option<Row>
     requires { (at + 8 * width + 1 ≤ length s.now) × (width ≤ 19) }
     ensures { result ≡ node_line_of width s.now at }
 {
     let middle = at + width + width + width + width;
     let end = middle + width + width + width + width;
     if s[end] != 10 {
-        return NodeLine::Bad;
+        return None;
     }
-    let Four::Numbers(x) = read_four(s, at, width) else {
-        return NodeLine::Bad;
-    };
-    let Four::Numbers(y) = read_four(s, middle, width) else {
-        return NodeLine::Bad;
-    };
-    NodeLine::Numbers(row_of(x, y))
+    let x = read_four(s, at, width)?;
+    let y = read_four(s, middle, width)?;
+    Some(row_of(x, y))
 }

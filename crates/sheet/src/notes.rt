@@ -2,24 +2,17 @@
 ghost use Rattle.std.specs.Prelude.{◌≡◌, ◌+◌, ◌^◌, ◌<◌};
 ghost use Rattle.sheet.specs.Notes.{Sized, Whole, WholePool, attributes_read, nodes_read, note_attribute, note_row};
 
-use crate::line::{Four, Layout, NodeLine, Quad, Row, read_node_line, read_short_line};
+use crate::line::{Layout, Quad, Row, read_node_line, read_short_line};
 use crate::tests::{kind_right, note, ranges_right, texts_right, tree_right};
-use crate::verdict::Found;
 
 // Of each stage over the node lines the first that is not right, and the sum of the attribute counts.
 #[derive(Clone, Copy)]
 pub struct Notes {
-    pub kind: Found,
-    pub tree: Found,
-    pub range: Found,
-    pub encoding: Found,
+    pub kind: Option<usize>,
+    pub tree: Option<usize>,
+    pub range: Option<usize>,
+    pub encoding: Option<usize>,
     pub counts: usize,
-}
-
-#[derive(Clone, Copy)]
-pub enum NodesRead {
-    Noted(Notes),
-    Bad(usize),
 }
 
 fn note_row(pool: &[u8], whole: bool, n: Notes, i: usize, before: Row, r: Row) -> Notes
@@ -51,8 +44,8 @@ fn note_row(pool: &[u8], whole: bool, n: Notes, i: usize, before: Row, r: Row) -
     }
 }
 
-// The node lines: the first whose format is not right, or the notes.
-pub fn read_nodes(s: &[u8], l: Layout, whole: bool) -> NodesRead
+// The node lines' notes, or the first line whose format is not right.
+pub fn read_nodes(s: &[u8], l: Layout, whole: bool) -> Result<Notes, usize>
     requires { Sized s.now l × Whole s.now l whole }
     ensures { result ≡ nodes_read s.now l }
 {
@@ -60,10 +53,10 @@ pub fn read_nodes(s: &[u8], l: Layout, whole: bool) -> NodesRead
     let start = s.len() - l.pool;
     let step = 8 * width + 1;
     let mut n = Notes {
-        kind: Found::Nothing,
-        tree: Found::Nothing,
-        range: Found::Nothing,
-        encoding: Found::Nothing,
+        kind: None,
+        tree: None,
+        range: None,
+        encoding: None,
         counts: 0,
     };
     let mut before = Row {
@@ -77,34 +70,22 @@ pub fn read_nodes(s: &[u8], l: Layout, whole: bool) -> NodesRead
         attributes: 0,
     };
     let mut at = 4 * width + 1;
-    let mut i = 0;
-    while i < l.nodes {
-        match read_node_line(s, at, width) {
-            NodeLine::Bad => {
-                return NodesRead::Bad(i);
-            }
-            NodeLine::Numbers(r) => {
-                n = note_row(&s[start..], whole, n, i, before, r);
-                before = r;
-                at += step;
-                i += 1;
-            }
-        }
+    for i in 0..l.nodes {
+        let Some(r) = read_node_line(s, at, width) else {
+            return Err(i);
+        };
+        n = note_row(&s[start..], whole, n, i, before, r);
+        before = r;
+        at += step;
     }
-    NodesRead::Noted(n)
+    Ok(n)
 }
 
 // Of each stage over the attribute lines the first that is not right.
 #[derive(Clone, Copy)]
 pub struct AttributeNotes {
-    pub range: Found,
-    pub encoding: Found,
-}
-
-#[derive(Clone, Copy)]
-pub enum AttributesRead {
-    Noted(AttributeNotes),
-    Bad(usize),
+    pub range: Option<usize>,
+    pub encoding: Option<usize>,
 }
 
 fn note_attribute(pool: &[u8], whole: bool, n: AttributeNotes, j: usize, q: Quad) -> AttributeNotes
@@ -126,8 +107,8 @@ fn note_attribute(pool: &[u8], whole: bool, n: AttributeNotes, j: usize, q: Quad
     AttributeNotes { range, encoding }
 }
 
-// The attribute lines: the first whose format is not right, or the notes.
-pub fn read_attributes(s: &[u8], l: Layout, whole: bool) -> AttributesRead
+// The attribute lines' notes, or the first line whose format is not right.
+pub fn read_attributes(s: &[u8], l: Layout, whole: bool) -> Result<AttributeNotes, usize>
     requires { Sized s.now l × Whole s.now l whole }
     ensures { result ≡ attributes_read s.now l }
 {
@@ -135,22 +116,16 @@ pub fn read_attributes(s: &[u8], l: Layout, whole: bool) -> AttributesRead
     let start = s.len() - l.pool;
     let step = 4 * width + 1;
     let mut n = AttributeNotes {
-        range: Found::Nothing,
-        encoding: Found::Nothing,
+        range: None,
+        encoding: None,
     };
     let mut at = 4 * width + 1 + (8 * width + 1) * l.nodes;
-    let mut j = 0;
-    while j < l.attributes {
-        match read_short_line(s, at, width) {
-            Four::Bad => {
-                return AttributesRead::Bad(j);
-            }
-            Four::Numbers(q) => {
-                n = note_attribute(&s[start..], whole, n, j, q);
-                at += step;
-                j += 1;
-            }
-        }
+    for j in 0..l.attributes {
+        let Some(q) = read_short_line(s, at, width) else {
+            return Err(j);
+        };
+        n = note_attribute(&s[start..], whole, n, j, q);
+        at += step;
     }
-    AttributesRead::Noted(n)
+    Ok(n)
 }

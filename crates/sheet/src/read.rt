@@ -52,10 +52,8 @@ pub fn digits_at(s: &[u8], at: usize, width: usize) -> usize
     }
     let end = at + width;
     let mut n = 0;
-    let mut i = at;
-    while i < end {
-        n = n * 10 + (s[i] % 16) as usize;
-        i += 1;
+    for i in at..end {
+        n = n * 10 + usize::from(s[i] % 16);
     }
     n
 }

@@ -3,10 +3,10 @@ ghost use Rattle.std.specs.Prelude.{◌≡◌, ◌<◌, ◌≤◌};
 ghost use Rattle.sheet.specs.Layout.{node_start, pool_start};
 ghost use Rattle.sheet.specs.Notes.{Sized, Whole, row_in};
 
-use crate::line::{Layout, NodeLine, Row, read_node_line};
+use crate::line::{Layout, Row, read_node_line};
 use crate::tests::row_right;
 
-// Row i, whose line is at at and whose attributes stand behind first others, where the rows before it are right; Bad where it is not right.
+// Row i, whose line is at at and whose attributes stand behind first others, where the rows before it are right; none where it is not right.
 pub fn row_in(
     s: &[u8],
     l: Layout,
@@ -16,19 +16,17 @@ pub fn row_in(
     before: Row,
     at: usize,
     first: usize,
-) -> NodeLine
+) -> Option<Row>
     requires start_value { (start ≡ pool_start l) × Sized s.now l × Whole s.now l whole }
     requires i_lt_nodes { (i < l.nodes) × (at ≡ node_start l i) × (first ≤ l.attributes) }
     ensures { result ≡ row_in s.now l i before at first }
 {
-    let NodeLine::Numbers(r) = read_node_line(s, at, l.width) else {
-        return NodeLine::Bad;
-    };
+    let r = read_node_line(s, at, l.width)?;
     if !row_right(&s[start..], whole, i, before, r) {
-        return NodeLine::Bad;
+        return None;
     }
     if r.attributes > l.attributes - first {
-        return NodeLine::Bad;
+        return None;
     }
-    NodeLine::Numbers(r)
+    Some(r)
 }

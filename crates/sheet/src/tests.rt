@@ -5,21 +5,15 @@ ghost use Rattle.sheet.specs.Verdict.{body_right, inside, kind_right, ranges_rig
 
 use crate::limits::MOST_DEPTH;
 use crate::line::Row;
-use crate::verdict::Found;
 
 // The first line at fault so far.
-pub fn note(f: Found, right: bool, i: usize) -> Found
-    ensures { result ≡ note_of f right i }
+pub fn note(found: Option<usize>, right: bool, i: usize) -> Option<usize>
+    ensures { result ≡ note_of found right i }
 {
-    match f {
-        Found::At(j) => Found::At(j),
-        Found::Nothing => {
-            if right {
-                return Found::Nothing;
-            }
-            Found::At(i)
-        }
+    if right || found.is_some() {
+        return found;
     }
+    Some(i)
 }
 
 // A text or a comment has no name and no attributes.

@@ -1,28 +1,19 @@
 // What is wrong with a sheet.
-ghost use Rattle.std.specs.Prelude.{◌&&◌, ◌≡◌, ◌+◌, ◌<◌, ◌≤◌, length};
-ghost use Rattle.std.proofs.Math.Option.{none};
+ghost use Rattle.std.specs.Prelude.{is_none, ◌&&◌, ◌≡◌, ◌+◌, ◌<◌, ◌≤◌, length};
 ghost use Rattle.utf8.specs.Valid.{valid};
 ghost use Rattle.sheet.specs.Layout.{most_attributes, most_rows, pool_limit, pool_of, row_at, size_of};
 ghost use Rattle.sheet.specs.Lines.{number_at};
-ghost use Rattle.sheet.specs.Notes.{Formatted, Sized, Whole, attributes_notes, attributes_right, is_nothing, nodes_notes, rest_right};
+ghost use Rattle.sheet.specs.Notes.{Formatted, Sized, Whole, attributes_notes, attributes_right, nodes_notes, rest_right};
 ghost use Rattle.sheet.specs.Verdict.{counts_right, header_of, judged, node_format, nodes, numbers, verdict, verdict_of};
 
-use crate::field::{Field, read_field};
+use crate::field::read_field;
 use crate::limits::{MOST_ATTRIBUTES, MOST_POOL, MOST_ROWS};
-use crate::line::{Four, Layout, read_short_line};
-use crate::notes::{AttributeNotes, AttributesRead, NodesRead, Notes, read_attributes, read_nodes};
+use crate::line::{Layout, read_short_line};
+use crate::notes::{AttributeNotes, Notes, read_attributes, read_nodes};
 
-// A row, or none.
-#[derive(Clone, Copy)]
-pub enum Found {
-    At(usize),
-    Nothing,
-}
-
-// A sheet with its layout, or what is wrong with it, with the line or the length that document 01 names.
-#[derive(Clone, Copy)]
-pub enum Verdict {
-    Sheet(Layout),
+// What is wrong with a sheet, with its line or the length that it should have.
+#[derive(Clone, Copy, Debug, PartialEq, Eq)]
+pub enum SheetError {
     Length(usize),
     Format(usize),
     Counts,
@@ -37,10 +28,7 @@ pub fn number_at(s: &[u8], at: usize, width: usize) -> usize
     requires { (at + width ≤ length s.now) × (width ≤ 19) }
     ensures { result ≡ number_at width s.now at }
 {
-    match read_field(s, at, width) {
-        Field::Number(n) => n,
-        Field::Bad => 0,
-    }
+    read_field(s, at, width).unwrap_or(0)
 }
 
 fn kind_at(s: &[u8], l: Layout, i: usize) -> usize
@@ -53,72 +41,52 @@ fn kind_at(s: &[u8], l: Layout, i: usize) -> usize
 }
 
 // 15, 14, 16 and 17, by the notes of both passes.
-fn decide(s: &[u8], l: Layout, n: Notes, a: AttributeNotes) -> Verdict
+fn decide(s: &[u8], l: Layout, n: Notes, a: AttributeNotes) -> Result<Layout, SheetError>
     requires { Sized s.now l × Formatted s.now l × (n ≡ nodes_notes s.now l) × (a ≡ attributes_notes s.now l) }
     ensures { result ≡ judged s.now l }
 {
     let nodes = l.nodes;
-    let kind = n.kind;
-    if let Found::At(i) = kind {
-        return Verdict::Kind(i + 1);
+    if let Some(i) = n.kind {
+        return Err(SheetError::Kind(i + 1));
     }
-    let tree = n.tree;
-    if let Found::At(i) = tree {
-        return Verdict::Tree(i + 1);
+    if let Some(i) = n.tree {
+        return Err(SheetError::Tree(i + 1));
     }
     if kind_at(s, l, l.root) != 1 {
-        return Verdict::Tree(0);
+        return Err(SheetError::Tree(0));
     }
-    let range = n.range;
-    if let Found::At(i) = range {
-        return Verdict::Range(i + 1);
+    if let Some(i) = n.range {
+        return Err(SheetError::Range(i + 1));
     }
-    let range2 = a.range;
-    if let Found::At(j) = range2 {
-        return Verdict::Range(nodes + j + 1);
+    if let Some(j) = a.range {
+        return Err(SheetError::Range(nodes + j + 1));
     }
     if n.counts != l.attributes {
-        return Verdict::Range(0);
+        return Err(SheetError::Range(0));
     }
-    let encoding = n.encoding;
-    if let Found::At(i) = encoding {
-        return Verdict::Encoding(i + 1);
+    if let Some(i) = n.encoding {
+        return Err(SheetError::Encoding(i + 1));
     }
-    let encoding2 = a.encoding;
-    if let Found::At(j) = encoding2 {
-        return Verdict::Encoding(nodes + j + 1);
+    if let Some(j) = a.encoding {
+        return Err(SheetError::Encoding(nodes + j + 1));
     }
-    Verdict::Sheet(l)
+    Ok(l)
 }
 
-fn judge_attributes(s: &[u8], l: Layout, whole: bool, n: Notes) -> Verdict
-    requires { Sized s.now l × Whole s.now l whole × (nodes s.now l (node_format s.now l) ≡ none) × (n ≡ nodes_notes s.now l) }
+fn judge_attributes(s: &[u8], l: Layout, whole: bool, n: Notes) -> Result<Layout, SheetError>
+    requires { Sized s.now l × Whole s.now l whole × (nodes s.now l (node_format s.now l) ≡ None) × (n ≡ nodes_notes s.now l) }
     ensures { result ≡ judged s.now l }
 {
     match read_attributes(s, l, whole) {
-        AttributesRead::Bad(j) => Verdict::Format(l.nodes + j + 1),
-        AttributesRead::Noted(a) => decide(s, l, n, a),
-    }
-}
-
-fn is_nothing(f: Found) -> bool
-    ensures { result ≡ is_nothing f }
-{
-    match f {
-        Found::At(_) => false,
-        Found::Nothing => true,
+        Ok(a) => decide(s, l, n, a),
+        Err(j) => Err(SheetError::Format(l.nodes + j + 1)),
     }
 }
 
 fn is_clean(a: AttributeNotes) -> bool
-    ensures { result ≡ (is_nothing a.range && is_nothing a.encoding) }
+    ensures { result ≡ (is_none a.range && is_none a.encoding) }
 {
-    let range = a.range;
-    if is_nothing(range) {
-        let encoding = a.encoding;
-        return is_nothing(encoding);
-    }
-    false
+    a.range.is_none() && a.encoding.is_none()
 }
 
 // Whether no attribute line is at fault.
@@ -127,8 +95,8 @@ fn attributes_right(s: &[u8], l: Layout, whole: bool) -> bool
     ensures { result ≡ attributes_right s.now l }
 {
     match read_attributes(s, l, whole) {
-        AttributesRead::Bad(_) => false,
-        AttributesRead::Noted(a) => is_clean(a),
+        Ok(a) => is_clean(a),
+        Err(_) => false,
     }
 }
 
@@ -147,13 +115,13 @@ pub fn rest_right(s: &[u8], l: Layout, whole: bool, counts: usize) -> bool
 }
 
 // 12 to 17; whole: whether the pool is known to be UTF-8.
-pub fn judge(s: &[u8], l: Layout, whole: bool) -> Verdict
+pub fn judge(s: &[u8], l: Layout, whole: bool) -> Result<Layout, SheetError>
     requires { Sized s.now l × Whole s.now l whole }
     ensures { result ≡ judged s.now l }
 {
     match read_nodes(s, l, whole) {
-        NodesRead::Bad(i) => Verdict::Format(i + 1),
-        NodesRead::Noted(n) => judge_attributes(s, l, whole, n),
+        Ok(n) => judge_attributes(s, l, whole, n),
+        Err(i) => Err(SheetError::Format(i + 1)),
     }
 }
 
@@ -184,16 +152,16 @@ fn size_of(l: Layout) -> usize
 }
 
 // The layout, where the header is right and the length is what it says; or what is wrong up to there.
-pub fn header_in(s: &[u8], width: usize) -> Verdict
+pub fn header_in(s: &[u8], width: usize) -> Result<Layout, SheetError>
     requires { width ≤ 10 }
     ensures { result ≡ header_of width s.now }
 {
     let header = 4 * width + 1;
     if s.len() < header {
-        return Verdict::Length(header);
+        return Err(SheetError::Length(header));
     }
-    let Four::Numbers(q) = read_short_line(s, 0, width) else {
-        return Verdict::Format(0);
+    let Some(q) = read_short_line(s, 0, width) else {
+        return Err(SheetError::Format(0));
     };
     let l = Layout {
         width,
@@ -203,13 +171,13 @@ pub fn header_in(s: &[u8], width: usize) -> Verdict
         root: q.fourth,
     };
     if !counts_right(l) {
-        return Verdict::Counts;
+        return Err(SheetError::Counts);
     }
     let size = size_of(l);
     if s.len() != size {
-        return Verdict::Length(size);
+        return Err(SheetError::Length(size));
     }
-    Verdict::Sheet(l)
+    Ok(l)
 }
 
 // Whether the pool is UTF-8 as a whole.
@@ -222,19 +190,16 @@ pub fn is_whole(s: &[u8], l: Layout) -> bool
 }
 
 // The verdict on a sheet whose numbers have width columns.
-pub fn check_in(s: &[u8], width: usize) -> Verdict
+pub fn check_in(s: &[u8], width: usize) -> Result<Layout, SheetError>
     requires { width ≤ 10 }
     ensures { result ≡ verdict_of width s.now }
 {
-    let v = header_in(s, width);
-    let Verdict::Sheet(l) = v else {
-        return v;
-    };
+    let l = header_in(s, width)?;
     judge(s, l, is_whole(s, l))
 }
 
 // The verdict on a sheet: its numbers have 8 columns.
-pub fn check(s: &[u8]) -> Verdict
+pub fn check(s: &[u8]) -> Result<Layout, SheetError>
     ensures answer { result ≡ verdict s.now }
     ensures said { numbers result ≡ numbers (verdict s.now) }
 {

@@ -23,11 +23,9 @@ fn put_front(out: &mut [u8], at: usize, width: usize, q: usize) -> usize
     ensures { Puts out.old at (front width q) out.new result }
 {
     let mut q = q;
-    let mut left = width;
-    while left > 0 {
-        left -= 1;
+    for left in (0..width).rev() {
         out[at + left] = column(q);
-        q = q / 10;
+        q /= 10;
     }
     at + width
 }

@@ -1,4 +1,5 @@
 -- What is read off an accepted sheet by what is decoded of it.
+use Rattle.std.specs.Prelude.{Ok}
 use mathlib.Core.Path.{◌≡◌, refl, sym, ap, ◌∙◌, subst}
 use Prim.Native.Nat.{ℕ, ◌^◌, ◌≤◌, ◌<◌}
 use native.Mathlib.Omega.{arith}
@@ -10,7 +11,6 @@ use Rattle.sheet.specs.Notes.{Lined}
 use Rattle.sheet.specs.Verdict.{verdict, verdict_of}
 use Rattle.sheet.specs.declared.line.Layout.{Layout}
 use Rattle.sheet.specs.declared.line.Row.{Row}
-use Rattle.sheet.specs.declared.verdict.Verdict.TheVariants.{Sheet}
 use Rattle.tree.specs.Page.{page_of}
 use Rattle.sheet_form.specs.Decoded.{Decoded, row_in, depths_in, layout_for}
 use Rattle.sheet_form.specs.Encoding.{decode, encode, Fits}
@@ -32,7 +32,7 @@ layout_same w d x p q r t i = record { width = w; nodes = p i; attributes = q i;
 
 -- d is what is decoded of the accepted sheet s
 pub record Decodes (s : Bytes) (l : Layout) (d : Decoded) : Type 0 where
-  pub accepted : verdict s ≡ Sheet l
+  pub accepted : verdict s ≡ Ok l
   pub width : l.width ≡ 8
   pub lined : Lined s l
   pub decoded : decode l s ≡ d
@@ -49,7 +49,7 @@ pub record Decodes (s : Bytes) (l : Layout) (d : Decoded) : Type 0 where
   pub page : page_of s l ≡ page_in d
   pub pool_small : length d.pool ≤ pool_limit l.width
 
-pub decodes : {s : Bytes} {l : Layout} → verdict s ≡ Sheet l → Decodes s l (decode l s)
+pub decodes : {s : Bytes} {l : Layout} → verdict s ≡ Ok l → Decodes s l (decode l s)
 unfolding decode
 decodes {s} {l} e =
     let a = of_accepted (omega arith) s l e in
@@ -97,7 +97,7 @@ module _ {s : Bytes} {l : Layout} {d x : Decoded} (a : Decodes s l d) (r : Right
       let layout = same ∙ a.layout in
       let size = ap (λ (k : Layout). k.nodes) layout in
       record {
-        accepted = ap (λ (k : ℕ). verdict_of k (encode w x)) (sym a.width) ∙ encode_accepted fits r pool_same ∙ ap Sheet layout;
+        accepted = ap (λ (k : ℕ). verdict_of k (encode w x)) (sym a.width) ∙ encode_accepted fits r pool_same ∙ ap Ok layout;
         width = a.width;
         lined = subst (Lined (encode w x)) layout (encode_lined w x fits);
         decoded = ap (λ (k : Layout). decode k (encode w x)) (sym layout) ∙ decode_encode w x fits;

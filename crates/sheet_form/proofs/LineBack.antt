@@ -1,4 +1,5 @@
 -- One line: read, it was written so; written, it reads back.
+use Rattle.std.specs.Prelude.{Option, Some, None}
 use mathlib.Core.Path.{◌≡◌, refl, sym, ap, ap₂, ◌∙◌, subst}
 use mathlib.Core.Bool.{true}
 use mathlib.Core.List.{List, [], ◌∷◌, ◌++◌, append_assoc}
@@ -15,8 +16,6 @@ use Rattle.common.proofs.Parts.{part_length}
 use Rattle.sheet.specs.Columns.{columns, field_of}
 use Rattle.sheet.specs.Lines.{is_number, number_in, field_at, number_at, numbers_right, after, line_right}
 use Rattle.sheet.specs.Writing.{line}
-use Rattle.sheet.specs.declared.field.Field.{Field}
-use Rattle.sheet.specs.declared.field.Field.TheVariants.{Number, Bad}
 use Rattle.sheet.specs.declared.line.Attribute.{Attribute}
 use Rattle.sheet.specs.declared.line.Row.{Row}
 use Rattle.sheet.proofs.ColumnsLaws.{reads_back}
@@ -31,9 +30,9 @@ numbers_at w s at (suc k) = number_at w s at ∷ numbers_at w s (at + w) k
 
 -- ---- read, it was written so
 
-field_form : (t : Bytes) (f : Field) → field_of t ≡ f → is_number f ≡ true → t ≡ columns (length t) (number_in f)
-field_form t (Number n) e i = ((reads_back t n).0 e).0
-field_form t Bad e i = absurd_test i refl
+field_form : (t : Bytes) (f : Option ℕ) → field_of t ≡ f → is_number f ≡ true → t ≡ columns (length t) (number_in f)
+field_form t (Some n) e i = ((reads_back t n).0 e).0
+field_form t None e i = absurd_test i refl
 
 module _ (w : ℕ) (s : Bytes) where
   number_form : (at : ℕ) → at + w ≤ length s → is_number (field_at w s at) ≡ true → take w (drop at s) ≡ columns w (number_at w s at)
@@ -64,7 +63,7 @@ module _ (w : ℕ) (s : Bytes) where
 
 module _ (w : ℕ) (some_column : 1 ≤ w) (s : Bytes) where
   module _ (n : ℕ) (rest : Bytes) (at : ℕ) (here : drop at s ≡ columns w n ++ rest) where
-    number_back : n < 10 ^ w → field_at w s at ≡ Number n
+    number_back : n < 10 ^ w → field_at w s at ≡ Some n
     unfolding field_at
     number_back h =
         let long = columns_length w n in

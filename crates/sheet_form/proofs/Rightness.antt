@@ -1,4 +1,5 @@
 -- The bytes of a decoded sheet are accepted exactly where it is right.
+use Rattle.std.specs.Prelude.{Result, Ok}
 use mathlib.Core.Path.{◌≡◌, sym, ap, ◌∙◌, subst}
 use mathlib.Core.Bool.{true, ◌||◌}
 use mathlib.Core.List.{List}
@@ -20,12 +21,10 @@ use Rattle.sheet.specs.Verdict.{kind_right, text_right, body_right, is_element, 
 use Rattle.sheet.specs.declared.line.Layout.{Layout}
 use Rattle.sheet.specs.declared.line.Row.{Row}
 use Rattle.sheet.specs.declared.line.Attribute.{Attribute}
-use Rattle.sheet.specs.declared.verdict.Verdict.{Verdict}
-use Rattle.sheet.specs.declared.verdict.Verdict.TheVariants.{Sheet}
+use Rattle.sheet.specs.declared.verdict.SheetError.{SheetError}
 use Rattle.sheet.proofs.Acceptance.{accepts}
 use Rattle.sheet.proofs.FirstWrong.{none_wrong}
-use Rattle.sheet_form.specs.Encoding.{encode, listed, decode, Fits}
-use Rattle.sheet_form.specs.Encoding as E
+use Rattle.sheet_form.specs.Encoding.{encode, decode, Fits}
 use Rattle.sheet_form.specs.Decoded.{Decoded, counts_of, row_in, attribute_in, range_in, layout_for}
 use Rattle.sheet_form.specs.Judged.{kind_in, tree_in, row_range_in, attribute_range_in, row_text_in, attribute_text_in, judged_in, counts_in, verdict_in}
 use Rattle.sheet_form.specs.Right.{TextIn, LaterIn, Right}
@@ -66,7 +65,7 @@ module _ (d : Decoded) where
         (and_both (le-leb (row_in d (suc i)).depth (suc (row_in d i).depth) t.no_jump)
         (ap (is_element (row_in d)) t.parent.1 ∙ eq-eqb (row_in d t.parent.0).kind 1 t.parent.2)))
 
-    pub right_judged : (accepted : Verdict) → judged_in d accepted ≡ accepted
+    pub right_judged : (accepted : Result Layout SheetError) → judged_in d accepted ≡ accepted
     unfolding judged_in kind_in row_range_in attribute_range_in row_text_in attribute_text_in
     right_judged accepted =
         let n = length d.rows in
@@ -88,11 +87,11 @@ module _ (d : Decoded) where
         and_both (le-leb 1 _ r.some_row)
         (and_both (le-leb _ most_rows r.rows) (and_both (le-leb _ most_attributes r.attributes) (and_both (le-leb _ limit h) (lt-ltb _ _ r.root_row))))
 
-    pub right_verdict : (w : ℕ) → length d.pool ≤ pool_limit w → verdict_in w d ≡ Sheet (layout_for w d)
+    pub right_verdict : (w : ℕ) → length d.pool ≤ pool_limit w → verdict_in w d ≡ Ok (layout_for w d)
     unfolding verdict_in
-    right_verdict w h = rw (counts_right (pool_limit w) h) (right_judged (Sheet (layout_for w d)))
+    right_verdict w h = rw (counts_right (pool_limit w) h) (right_judged (Ok (layout_for w d)))
 
-pub encode_accepted : {w : ℕ} {d : Decoded} → Fits w d → Right d → length d.pool ≤ pool_limit w → verdict_of w (encode w d) ≡ Sheet (layout_for w d)
+pub encode_accepted : {w : ℕ} {d : Decoded} → Fits w d → Right d → length d.pool ≤ pool_limit w → verdict_of w (encode w d) ≡ Ok (layout_for w d)
 encode_accepted {w} {d} fits r h = verdict_encode w d fits ∙ right_verdict d r w h
 
 -- ---- accepted, it is right
@@ -149,7 +148,7 @@ module _ {w : ℕ} {d : Decoded} (fits : Fits w d) where
           counts = sym (counts_is w d fits) ∙ a.counts;
         }
 
-  pub accepted_right : {k : Layout} → verdict_of w (encode w d) ≡ Sheet k → Right d × (length d.pool ≤ pool_limit w)
+  pub accepted_right : {k : Layout} → verdict_of w (encode w d) ≡ Ok k → Right d × (length d.pool ≤ pool_limit w)
   accepted_right {k} e =
       let a = accepts fits.most_columns e in
       let said : k ≡ layout_of w (quad_from w s 0) = a.1.lined.layout ∙ ap (λ (v : ℕ). layout_of v (quad_from v s 0)) a.0 in
@@ -158,7 +157,7 @@ module _ {w : ℕ} {d : Decoded} (fits : Fits w d) where
 
 -- ---- an accepted sheet, decoded
 
-pub of_accepted : {w : ℕ} → w ≤ 10 → (s : Bytes) (l : Layout) → verdict_of w s ≡ Sheet l
+pub of_accepted : {w : ℕ} → w ≤ 10 → (s : Bytes) (l : Layout) → verdict_of w s ≡ Ok l
     → (l.width ≡ w) × Lined s l × Right (decode l s) × (length (decode l s).pool ≤ pool_limit l.width)
 of_accepted width s l e =
     let a = accepts width e in

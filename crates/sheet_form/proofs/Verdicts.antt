@@ -1,4 +1,5 @@
 -- The verdict on a decoded sheet's bytes is the verdict on its numbers, whatever the width.
+use Rattle.std.specs.Prelude.{Ok, Err}
 use mathlib.Core.Path.{◌≡◌, refl, sym, ap, ap₂, ◌∙◌, subst, fun_ext}
 use mathlib.Core.Bool.{not, cond}
 use mathlib.Core.List.{List, ◌∷◌, map}
@@ -10,10 +11,10 @@ use Rattle.common.specs.Bytes.{Bytes}
 use Rattle.sheet.specs.Layout.{no_row, header_length, size_of, layout_of, row_at, depths_from, depths}
 use Rattle.sheet.specs.Lines.{quad_from}
 use Rattle.sheet.specs.Notes.{Lined}
-use Rattle.sheet.specs.Verdict.{counts_right, kind_right, row_ranges, row_texts, attribute_ranges, attribute_texts, place_right, attributes, node_kind, node_tree, node_range, attribute_range, node_text, attribute_text, counts_from, judged, verdict_of}
+use Rattle.sheet.specs.Verdict.{counts_right, kind_right, row_ranges, row_texts, attribute_ranges, attribute_texts, place_right, node_kind, node_tree, node_range, attribute_range, node_text, attribute_text, counts_from, judged, verdict_of}
 use Rattle.sheet.specs.declared.line.Layout.{Layout}
 use Rattle.sheet.specs.declared.line.Row.{Row}
-use Rattle.sheet.specs.declared.verdict.Verdict.TheVariants.{Sheet, Counts}
+use Rattle.sheet.specs.declared.verdict.SheetError.TheVariants.{Counts}
 use Rattle.sheet_form.specs.Encoding.{encode, listed, Fits}
 use Rattle.sheet_form.specs.Decoded.{Decoded, counts_of, depths_in, layout_for}
 use Rattle.sheet_form.specs.Judged.{kind_in, tree_in, row_range_in, attribute_range_in, row_text_in, attribute_text_in, rows_in, attributes_in, judged_in, counts_in, verdict_in}
@@ -26,13 +27,13 @@ module _ (w : ℕ) (s : Bytes) where
   abbrev k : Layout
   k = layout_of w (quad_from w s 0)
 
-  here : Lined s k → verdict_of w s ≡ cond (not (counts_right k)) Counts (judged s k)
+  here : Lined s k → verdict_of w s ≡ cond (not (counts_right k)) (Err Counts) (judged s k)
   unfolding verdict_of
   here lined = rw (le-ltb (length s) (header_length w) (omega (arith, lined.size)), lined.header, eq-eqb (length s) (size_of k) lined.size)
 
-lined_verdict : {s : Bytes} {l : Layout} → Lined s l → verdict_of l.width s ≡ cond (not (counts_right l)) Counts (judged s l)
+lined_verdict : {s : Bytes} {l : Layout} → Lined s l → verdict_of l.width s ≡ cond (not (counts_right l)) (Err Counts) (judged s l)
 lined_verdict {s} {l} lined =
-    subst (λ (x : Layout). verdict_of l.width s ≡ cond (not (counts_right x)) Counts (judged s x)) (sym lined.layout) (here l.width s (subst (Lined s) lined.layout lined))
+    subst (λ (x : Layout). verdict_of l.width s ≡ cond (not (counts_right x)) (Err Counts) (judged s x)) (sym lined.layout) (here l.width s (subst (Lined s) lined.layout lined))
 
 -- ---- columns of the rows
 
@@ -93,7 +94,7 @@ module _ (w : ℕ) (d : Decoded) (fits : Fits w d) where
 
   -- ---- the stages
 
-  judged_same : judged s l ≡ judged_in d (Sheet l)
+  judged_same : judged s l ≡ judged_in d (Ok l)
   unfolding judged judged_in
   judged_same =
       let lined = encode_lined w d fits in

@@ -1,10 +1,10 @@
 -- What is wrong with a decoded sheet (document 01, "Who can cause which number", 13 to 17), with the line that is named.
-use Rattle.std.specs.Prelude.{Bool, ◌&&◌, not, cond, ℕ, ◌+◌, leb, ltb, eqb, length}
-use Rattle.std.proofs.Math.Option.{Option}
+use Rattle.sheet.specs.declared.line.Layout.{Layout}
+use Rattle.std.specs.Prelude.{Bool, ◌&&◌, not, cond, ℕ, ◌+◌, leb, ltb, eqb, length, Option, Result, Ok, Err}
 use Rattle.sheet.specs.Layout.{most_rows, most_attributes, pool_limit}
 use Rattle.sheet.specs.Verdict.{first_wrong, stage, kind_right, row_ranges, row_texts, attribute_ranges, attribute_texts, place_right}
-use Rattle.sheet.specs.declared.verdict.Verdict.{Verdict}
-use Rattle.sheet.specs.declared.verdict.Verdict.TheVariants.{Sheet, Counts, Kind, Tree, Range, Encoding}
+use Rattle.sheet.specs.declared.verdict.SheetError.{SheetError}
+use Rattle.sheet.specs.declared.verdict.SheetError.TheVariants.{Counts, Kind, Tree, Range, Encoding}
 use Rattle.sheet_form.specs.Decoded.{Decoded, counts_of, row_in, attribute_in, depths_in, layout_for}
 
 module _ (d : Decoded) where
@@ -42,22 +42,22 @@ module _ (d : Decoded) where
   attributes_in right = first_wrong right 0 (length d.attributes)
 
   -- `accepted`, or the first that is wrong
-  unfoldable pub judged_in : Verdict → Verdict
+  unfoldable pub judged_in : Result Layout SheetError → Result Layout SheetError
   judged_in accepted =
       -- 15
       stage (rows_in kind_in) (λ i. Kind (i + 1))
       -- 14, "root not an element (line 0, last)"
       (stage (rows_in tree_in) (λ i. Tree (i + 1))
-      (cond (not (eqb (row_in d d.root).kind 1)) (Tree 0)
+      (cond (not (eqb (row_in d d.root).kind 1)) (Err (Tree 0))
       -- 16, "then attribute counts not summing to A (line 0)"
       (stage (rows_in row_range_in) (λ i. Range (i + 1))
       (stage (attributes_in attribute_range_in) (λ j. Range (length d.rows + j + 1))
-      (cond (not (eqb (counts_of d.rows) (length d.attributes))) (Range 0)
+      (cond (not (eqb (counts_of d.rows) (length d.attributes))) (Err (Range 0))
       -- 17
       (stage (rows_in row_text_in) (λ i. Encoding (i + 1))
       (stage (attributes_in attribute_text_in) (λ j. Encoding (length d.rows + j + 1))
       accepted)))))))
 
 -- the whole verdict on a decoded sheet that is written in columns of width w; "Counts out of range, or root not below N: 13"
-unfoldable pub verdict_in : ℕ → Decoded → Verdict
-verdict_in w d = cond (not (counts_in d (pool_limit w))) Counts (judged_in d (Sheet (layout_for w d)))
+unfoldable pub verdict_in : ℕ → Decoded → Result Layout SheetError
+verdict_in w d = cond (not (counts_in d (pool_limit w))) (Err Counts) (judged_in d (Ok (layout_for w d)))

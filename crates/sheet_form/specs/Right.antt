@@ -1,6 +1,5 @@
 -- A decoded sheet that is right, in document 01's sentences; nothing here knows a width.
-use Rattle.std.specs.Prelude.{◌≡◌, true, ℕ, suc, ◌+◌, ◌≤◌, ◌<◌, length}
-use Rattle.std.proofs.Math.Option.{some}
+use Rattle.std.specs.Prelude.{◌≡◌, true, ℕ, suc, ◌+◌, ◌≤◌, ◌<◌, length, Some}
 use Rattle.common.specs.Bytes.{codes}
 use Rattle.utf8.specs.Valid.{valid}
 use Rattle.sheet.specs.Accepted.{KindOf}
@@ -19,7 +18,7 @@ module _ (d : Decoded) where
     pub some_depth : 1 ≤ (row_in d (suc i)).depth
     pub depth_within : (row_in d (suc i)).depth ≤ most_depth
     pub no_jump : (row_in d (suc i)).depth ≤ suc (row_in d i).depth
-    pub parent : (j : ℕ) × (parent_of (depths_in d) (suc i) ≡ some j) × ((row_in d j).kind ≡ 1)
+    pub parent : (j : ℕ) × (parent_of (depths_in d) (suc i) ≡ Some j) × ((row_in d j).kind ≡ 1)
 
   pub record Right : Type 0 where
     -- "N 1 to 20,000; A to 60,000"

@@ -1,11 +1,10 @@
 -- What holds between sheets, decoded sheets and their bytes.
-use Rattle.std.specs.Prelude.{◌≡◌, ◌↔◌, ℕ, ◌^◌, ◌≤◌, ◌<◌, length}
+use Rattle.std.specs.Prelude.{◌≡◌, ◌↔◌, ℕ, ◌^◌, ◌≤◌, ◌<◌, length, Ok}
 use Rattle.common.specs.Bytes.{Bytes}
 use Rattle.sheet.specs.Layout.{pool_limit, row_at, attribute_at, range}
 use Rattle.sheet.specs.Notes.{Lined}
 use Rattle.sheet.specs.Verdict.{numbers, verdict_of}
 use Rattle.sheet.specs.declared.line.Layout.{Layout}
-use Rattle.sheet.specs.declared.verdict.Verdict.TheVariants.{Sheet}
 use Rattle.tree.specs.Page.{page_of}
 use Rattle.sheet_form.specs.Decoded.{Decoded, layout_for, row_in, attribute_in, range_in}
 use Rattle.sheet_form.specs.Encoding.{encode, decode, Fits}
@@ -42,7 +41,7 @@ pub record OfDecoded (w : ℕ) (d : Decoded) : Type 0 where
   -- the verdict on the bytes is one over the numbers
   pub verdict : verdict_of w (encode w d) ≡ verdict_in w d
   -- they are accepted just where the numbers are right
-  pub accepted : (verdict_of w (encode w d) ≡ Sheet (layout_for w d)) ↔ (Right d × (length d.pool ≤ pool_limit w))
+  pub accepted : (verdict_of w (encode w d) ≡ Ok (layout_for w d)) ↔ (Right d × (length d.pool ≤ pool_limit w))
   pub page : Right d → page_of (encode w d) (layout_for w d) ≡ page_in d
 
 -- ---- two widths
@@ -57,7 +56,7 @@ pub record OfWidths (w v : ℕ) (d : Decoded) : Type 0 where
 
 pub record Theorems : Type 0 where
   pub of_lined : {s : Bytes} {l : Layout} → Lined s l → OfLined s l
-  pub of_accepted : {w : ℕ} {s : Bytes} {l : Layout} → w ≤ 10 → verdict_of w s ≡ Sheet l → OfAccepted w s l
+  pub of_accepted : {w : ℕ} {s : Bytes} {l : Layout} → w ≤ 10 → verdict_of w s ≡ Ok l → OfAccepted w s l
   pub of_decoded : {w : ℕ} {d : Decoded} → Fits w d → OfDecoded w d
   pub of_widths : {w v : ℕ} {d : Decoded} → Fits w d → Fits v d → OfWidths w v d
   -- what is right has room wherever 60,000 and its pool's length have

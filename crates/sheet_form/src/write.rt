@@ -66,27 +66,22 @@ fn put_rows(out: &mut [u8], at: usize, width: usize, s: &[u8], l: Layout) -> usi
     requires { Lined s.now l × (at + node_length width * l.nodes ≤ length out.old) }
     ensures { Puts out.old at (lines row_numbers width (listed (row_at s.now l) 0 l.nodes)) out.new result }
 {
-    let nodes = l.nodes;
     let mut at = at;
-    let mut i = 0;
-    while i < nodes {
+    for i in 0..l.nodes {
         at = put_row(out, at, width, row_at(s, l, i));
-        i += 1;
     }
     at
 }
 
-// The lines of its attributes.
+// The lines of its attributes. Not one function with put_rows: that would take the reading and the writing of a line as closures, with the
+// requires of each.
 fn put_attributes(out: &mut [u8], at: usize, width: usize, s: &[u8], l: Layout) -> usize
     requires { Lined s.now l × (at + attribute_length width * l.attributes ≤ length out.old) }
     ensures { Puts out.old at (lines attribute_numbers width (listed (attribute_at s.now l) 0 l.attributes)) out.new result }
 {
-    let attributes = l.attributes;
     let mut at = at;
-    let mut j = 0;
-    while j < attributes {
+    for j in 0..l.attributes {
         at = put_attribute(out, at, width, attribute_at(s, l, j));
-        j += 1;
     }
     at
 }

@@ -6,7 +6,7 @@ use Prim.Native.Nat.{ℕ, suc, ◌+◌, ◌-◌, ◌≤◌, ◌<◌}
 use native.Mathlib.Omega.{arith}
 use native.Mathlib.Numerals.{add-one}
 use lib.ListN.{length, take, drop, get_or, length-drop, drop_of_length-le}
-use lib.Seq.{drop-cons, take-suc, take_all, get_or-drop, append_snoc}
+use lib.Seq.{drop-cons, take-suc, get_or-drop, append_snoc}
 use borrow.Author.Tests.{eq-eqb, ne_eqb}
 use Rattle.common.specs.Bytes.{Bytes, same}
 use Rattle.tags.specs.Line.{words_behind, WordAt}

@@ -3,9 +3,9 @@
 
 ghost use Rattle.std.specs.Prelude.{◌≡◌, ◌≤◌, length};
 ghost use Rattle.tags.specs.Line.{WordAt};
-ghost use Rattle.tags.specs.Packed.{pack_of, tag_packed};
+ghost use Rattle.tags.specs.Packed.{pack_of, short_names, tag_packed};
 ghost use Rattle.tags.specs.Tags.{tag_of};
-ghost use Rattle.tags.specs.Words.{one_of, words, words_of};
+ghost use Rattle.tags.specs.Words.{one_of, words_of};
 
 pub mod theorems;
 
@@ -102,14 +102,12 @@ fn word_end(words: &[u8], from: usize) -> usize
     requires { from ≤ length words.now }
     ensures { WordAt words.now from result }
 {
-    let mut i = from;
-    while i < words.len() {
-        if words[i] == 32 {
+    for i in from..words.len() {
+        if words[i] == b' ' {
             return i;
         }
-        i += 1;
     }
-    i
+    words.len()
 }
 
 // Whether s is one of the words of a line, with one space between two.
@@ -128,29 +126,22 @@ pub fn one_of(s: &[u8], words: &[u8]) -> bool
     common::same(s, &words[from..])
 }
 
-fn wide(b: u8) -> u64
-    ensures { result ≡ b }
-{
-    b as u64
-}
-
 // The bytes as one number to base 256, the last one first, behind a 1.
 pub fn pack(name: &[u8]) -> u64
     requires { length name.now ≤ 7 }
     ensures { result ≡ pack_of name.now }
 {
     let mut v: u64 = 1;
-    let mut i = name.len();
-    while i > 0 {
-        v = v * 256 + wide(name[i - 1]);
-        i -= 1;
+    for i in (0..name.len()).rev() {
+        v = v * 256 + u64::from(name[i]);
     }
     v
 }
 
-// Names of up to 2 bytes.
-fn tag_of_two(v: u64) -> u8
-    ensures { result ≡ tag_packed (words "tr td th ul ol li br h1 h2 h3 h4 h5 h6 p dd dt dl hr a") v }
+// Names of up to 7 bytes.
+#[tactic(auto, unfolding(crate::specs::Packed::packed, crate::specs::Packed::pack_of, crate::specs::Tags::tag_of, crate::specs::Tags::tag_names, crate::specs::Words::number_from, crate::specs::Words::words, crate::specs::Words::first_word, crate::specs::Words::other_words, common::specs::Bytes::codes, common::specs::Bytes::same))]
+fn tag_of_short(v: u64) -> u8
+    ensures { result ≡ tag_packed short_names v }
 {
     match v {
         // tr
@@ -191,15 +182,6 @@ fn tag_of_two(v: u64) -> u8
         94824 => HR,
         // a
         353 => A,
-        _ => OTHER,
-    }
-}
-
-// Names of 3 to 5 bytes.
-fn tag_of_five(v: u64) -> u8
-    ensures { result ≡ tag_packed (words "pre aside div form main nav table img area input") v }
-{
-    match v {
         // pre
         23425648 => PRE,
         // aside
@@ -220,15 +202,6 @@ fn tag_of_five(v: u64) -> u8
         5929005665 => AREA,
         // input
         1599698136681 => INPUT,
-        _ => OTHER,
-    }
-}
-
-// Names of 6 or 7 bytes.
-fn tag_of_seven(v: u64) -> u8
-    ensures { result ≡ tag_packed (words "address article center details figure footer header hgroup section button") v }
-{
-    match v {
         // address
         104554095907726433 => ADDRESS,
         // article
@@ -277,15 +250,9 @@ fn tag_of_long(name: &[u8]) -> u8
 pub fn tag_of(name: &[u8]) -> u8
     ensures { result ≡ tag_of name.now }
 {
-    let n = name.len();
-    if n <= 2 {
-        return tag_of_two(pack(name));
+    if name.len() <= 7 {
+        tag_of_short(pack(name))
+    } else {
+        tag_of_long(name)
     }
-    if n <= 5 {
-        return tag_of_five(pack(name));
-    }
-    if n <= 7 {
-        return tag_of_seven(pack(name));
-    }
-    tag_of_long(name)
 }

@@ -19,22 +19,6 @@ unfolding escape
 escape_append [] t = refl
 escape_append (c ∷ s) t = ap (λ (r : Bytes). escaped c ++ r) (escape_append s t) ∙ sym (append_assoc (escaped c) (escape s) (escape t))
 
-pub escaped_ampersand : (c : ℕ) → c ≡ 38 → escaped c ≡ codes "&amp;"
-unfolding escaped
-escaped_ampersand c e = rw e
-
-pub escaped_quote : (c : ℕ) → c ≡ 34 → escaped c ≡ codes "&quot;"
-unfolding escaped
-escaped_quote c e = rw e
-
-pub escaped_less : (c : ℕ) → c ≡ 60 → escaped c ≡ codes "&lt;"
-unfolding escaped
-escaped_less c e = rw e
-
-pub escaped_greater : (c : ℕ) → c ≡ 62 → escaped c ≡ codes "&gt;"
-unfolding escaped
-escaped_greater c e = rw e
-
 pub escaped_other : (c : ℕ) → (c ≡ 38 → ⊥) → (c ≡ 34 → ⊥) → (c ≡ 60 → ⊥) → (c ≡ 62 → ⊥) → escaped c ≡ c ∷ []
 unfolding escaped
 escaped_other c n m l g = simp (ne_eqb c 38 n, ne_eqb c 34 m, ne_eqb c 60 l, ne_eqb c 62 g)

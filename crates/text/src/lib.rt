@@ -8,7 +8,7 @@ ghost use Rattle.common.specs.Answer.{capped, numbers, out_after, written_in};
 ghost use Rattle.common.specs.Puts.{Puts};
 ghost use Rattle.text.specs.Text.{collapse, collapse_from, escape, escaped, is_space, rstrip, space_after, squeezed, trim, trim_start_by};
 
-use common::Written;
+use common::TooShort;
 
 // How many bytes a collapsed text has, and whether a blank is the last of them.
 #[derive(Clone, Copy)]
@@ -17,29 +17,22 @@ pub struct Squeezed {
     pub space: bool,
 }
 
-// ASCII whitespace and U+000B.
+// ASCII whitespace and U+000B. In this form LLVM makes no branch of it.
+#[tactic(auto, unfolding(crate::specs::Text::is_space, crate::specs::Text::is_ascii_whitespace))]
 pub fn is_space(b: u8) -> bool
     ensures { result ≡ is_space b }
 {
-    if b == 32 {
-        return true;
-    }
-    if b < 9 {
-        return false;
-    }
-    b <= 13
+    b == b' ' || matches!(b, 9..=13)
 }
 
 // The length without the blanks at the end.
 pub fn rstrip(s: &[u8]) -> usize
     ensures { result ≡ length (rstrip s.now) }
 {
-    let mut n = s.len();
-    while n > 0 {
-        if !is_space(s[n - 1]) {
-            return n;
+    for n in (0..s.len()).rev() {
+        if !is_space(s[n]) {
+            return n + 1;
         }
-        n -= 1;
     }
     0
 }
@@ -48,14 +41,12 @@ pub fn rstrip(s: &[u8]) -> usize
 pub fn leading(s: &[u8]) -> usize
     ensures { (result ≤ length s.now) × (drop result s.now ≡ trim_start_by is_space s.now) }
 {
-    let mut i = 0;
-    while i < s.len() {
+    for i in 0..s.len() {
         if !is_space(s[i]) {
             return i;
         }
-        i += 1;
     }
-    i
+    s.len()
 }
 
 // The part between the blanks at both ends.
@@ -72,13 +63,7 @@ pub fn trim(s: &[u8]) -> &[u8]
 fn squeezed_len(blank: bool, space: bool) -> usize
     ensures { result ≡ length (squeezed blank space 0) }
 {
-    if blank {
-        if space {
-            return 0;
-        }
-        return 1;
-    }
-    1
+    if blank && space { 0 } else { 1 }
 }
 
 // The bytes that a text adds to a collapsed text, by whether a blank stands before it; and whether one stands before what follows.
@@ -87,12 +72,10 @@ pub fn collapsed_from(s: &[u8], space: bool) -> Squeezed
 {
     let mut n = 0;
     let mut before = space;
-    let mut i = 0;
-    while i < s.len() {
-        let blank = is_space(s[i]);
+    for &b in s {
+        let blank = is_space(b);
         n += squeezed_len(blank, before);
         before = blank;
-        i += 1;
     }
     Squeezed {
         len: n,
@@ -100,11 +83,11 @@ pub fn collapsed_from(s: &[u8], space: bool) -> Squeezed
     }
 }
 
+#[tactic(auto, unfolding(crate::specs::Text::collapse_by))]
 pub fn collapsed_len(s: &[u8]) -> usize
     ensures { result ≡ length (collapse s.now) }
 {
-    let r = collapsed_from(s, false);
-    r.len
+    collapsed_from(s, false).len
 }
 
 // What a character adds to the collapsed text, stored at at; the place past it.
@@ -112,14 +95,10 @@ fn put_squeezed(out: &mut [u8], at: usize, b: u8, blank: bool, space: bool) -> u
     requires { at + length (squeezed blank space b) ≤ length out.old }
     ensures { Puts out.old at (squeezed blank space b) out.new result }
 {
-    if blank {
-        if space {
-            return at;
-        }
-        out[at] = 32;
-        return at + 1;
+    if blank && space {
+        return at;
     }
-    out[at] = b;
+    out[at] = if blank { b' ' } else { b };
     at + 1
 }
 
@@ -129,32 +108,30 @@ fn put_collapsed(out: &mut [u8], s: &[u8]) -> usize
 {
     let mut at = 0;
     let mut space = false;
-    let mut i = 0;
-    while i < s.len() {
-        let b = s[i];
+    for &b in s {
         let blank = is_space(b);
         at = put_squeezed(out, at, b, blank, space);
         space = blank;
-        i += 1;
     }
     at
 }
 
-// Each run of blanks as one U+0020, and zeros behind the text.
-pub fn collapse(s: &[u8], out: &mut [u8]) -> Written
+// Each run of blanks as one U+0020, and zeros behind the text; its length.
+pub fn collapse(s: &[u8], out: &mut [u8]) -> Result<usize, TooShort>
     ensures answer { numbers result ≡ written_in (collapse s.now) (length out.old) }
     ensures buffer { out.new ≡ out_after (collapse s.now) out.old }
 {
     let need = collapsed_len(s);
     if out.len() < need {
-        return Written::TooShort(need);
+        return Err(TooShort { need });
     }
     let n = put_collapsed(out, s);
     common::clear(out, n);
-    Written::Text(n)
+    Ok(n)
 }
 
 // How many bytes a character adds to the escaped text.
+#[tactic(auto, unfolding(crate::specs::Text::escaped, common::specs::Bytes::codes))]
 pub fn entity_len(b: u8) -> usize
     ensures { result ≡ length (escaped b) }
 {
@@ -167,29 +144,18 @@ pub fn entity_len(b: u8) -> usize
     }
 }
 
-// The sum, or the largest number where it does not fit.
-fn add_capped(n: usize, k: usize) -> usize
-    ensures { result ≡ capped (n + k) }
-{
-    if k <= 18446744073709551615 - n {
-        return n + k;
-    }
-    18446744073709551615
-}
-
 pub fn escaped_len(s: &[u8]) -> usize
     ensures { result ≡ capped (length (escape s.now)) }
 {
-    let mut n = 0;
-    let mut i = 0;
-    while i < s.len() {
-        n = add_capped(n, entity_len(s[i]));
-        i += 1;
+    let mut n = 0usize;
+    for &b in s {
+        n = n.saturating_add(entity_len(b));
     }
     n
 }
 
 // What a character adds to the escaped text, stored at at; the place past it.
+#[tactic(auto, using(common::proofs::Puts::puts_one), unfolding(crate::specs::Text::escaped, common::specs::Bytes::codes))]
 pub fn put_entity(out: &mut [u8], at: usize, b: u8) -> usize
     requires { at + length (escaped b) ≤ length out.old }
     ensures { Puts out.old at (escaped b) out.new result }
@@ -211,24 +177,23 @@ fn put_escaped(out: &mut [u8], s: &[u8]) -> usize
     ensures { Puts out.old 0 (escape s.now) out.new result }
 {
     let mut at = 0;
-    let mut i = 0;
-    while i < s.len() {
-        at = put_entity(out, at, s[i]);
-        i += 1;
+    for &b in s {
+        at = put_entity(out, at, b);
     }
     at
 }
 
-// `&`, `"`, `<` and `>` as their entities, and zeros behind the text.
-pub fn escape(s: &[u8], out: &mut [u8]) -> Written
+// `&`, `"`, `<` and `>` as their entities, and zeros behind the text; its length. The steps are those of
+// `collapse`; one function for both, with a closure for each step and what it promises, would be longer than the two.
+pub fn escape(s: &[u8], out: &mut [u8]) -> Result<usize, TooShort>
     ensures answer { numbers result ≡ written_in (escape s.now) (length out.old) }
     ensures buffer { out.new ≡ out_after (escape s.now) out.old }
 {
     let need = escaped_len(s);
     if out.len() < need {
-        return Written::TooShort(need);
+        return Err(TooShort { need });
     }
     let n = put_escaped(out, s);
     common::clear(out, n);
-    Written::Text(n)
+    Ok(n)
 }

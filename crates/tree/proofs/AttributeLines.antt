@@ -1,4 +1,5 @@
 -- The search for an attribute by name, step by step as a loop makes it, and the place of a row's attribute lines.
+use Rattle.std.specs.Prelude.{Option, None, Some, Result, Ok}
 use mathlib.Core.Path.{◌≡◌, refl, sym, ap, ◌∙◌}
 use mathlib.Core.Bool.{true, false}
 use Prim.Native.Nat.{ℕ, zero, suc, ◌+◌, ◌-◌, ◌≤◌, ◌<◌}
@@ -12,19 +13,16 @@ use Rattle.sheet.specs.Verdict.{counts_from}
 use Rattle.sheet.specs.declared.line.Attribute.{Attribute}
 use Rattle.sheet.specs.declared.line.Layout.{Layout}
 use Rattle.sheet.specs.declared.line.Row.{Row}
-use Rattle.tree.specs.Attributes.{name_at, attributes_from, find_of, value_in, RangeInside, from_range, attribute_to, attribute_of, numbers, values, range_numbers, range_values, range_of, attribute_numbers, attribute_values}
+use Rattle.tree.specs.declared.attributes.Span.{Span}
+use Rattle.tree.specs.declared.questions.QuestionError.{QuestionError}
+use Rattle.tree.specs.Attributes.{name_at, attributes_from, find_of, value_in, RangeInside, attribute_to, attribute_of, numbers, values, range_numbers, range_values, range_of, attribute_numbers, attribute_values}
 use Rattle.tree.specs.Node.{attribute}
 use Rattle.tree.proofs.NodeLaws.{attribute_cons_here, attribute_cons_next}
 use Rattle.tree.proofs.QuestionsLaws.{asked_by_sheet}
 use Rattle.tree.specs.Questions.{asked_of}
-use Rattle.tree.specs.declared.attributes.AttributeAnswer.{AttributeAnswer}
-use Rattle.tree.specs.declared.attributes.AttributeAt.{AttributeAt}
-use Rattle.tree.specs.declared.questions.Asked.{Asked}
-use Rattle.tree.specs.declared.questions.Asked.TheVariants.{Of}
-use Rattle.tree.specs.declared.attributes.AttributeAt.TheVariants.{Absent, At}
 
 module _ (s : Bytes) (l : Layout) (name : Bytes) where
-  find_here : (j n : ℕ) → same (name_at s l j) name ≡ true → find_of s l name j (suc n) ≡ At (attribute_at s l j).value_at (attribute_at s l j).value_len
+  find_here : (j n : ℕ) → same (name_at s l j) name ≡ true → find_of s l name j (suc n) ≡ Some (record { at = (attribute_at s l j).value_at; len = (attribute_at s l j).value_len })
   unfolding find_of
   find_here j n e = rw (e, find_of)
 
@@ -49,7 +47,7 @@ module _ (s : Bytes) (l : Layout) (name : Bytes) where
       named : same text name ≡ same (name_at s l (from + j)) name
       named = rw (text_is, a_is)
 
-      pub find_found : same text name ≡ true → At a.value_at a.value_len ≡ find_of s l name (from + j) (n - j)
+      pub find_found : same text name ≡ true → Some (record { at = a.value_at; len = a.value_len }) ≡ find_of s l name (from + j) (n - j)
       find_found e = rw (step_is h, a_is) (sym (find_here (from + j) (n - (j + 1)) (sym named ∙ e)))
 
       pub find_more : same text name ≡ false → find_of s l name (from + (j + 1)) (n - (j + 1)) ≡ find_of s l name (from + j) (n - j)
@@ -57,7 +55,7 @@ module _ (s : Bytes) (l : Layout) (name : Bytes) where
           let next : from + (j + 1) ≡ suc (from + j) = omega arith in
           rw (step_is h, next) (sym (find_next (from + j) (n - (j + 1)) (sym named ∙ e)))
 
-    pub find_end : n ≤ j → Absent ≡ find_of s l name (from + j) (n - j)
+    pub find_end : n ≤ j → None ≡ find_of s l name (from + j) (n - j)
     unfolding find_of
     find_end h = let z : n - j ≡ 0 = omega arith in rw (z, find_of)
 
@@ -111,29 +109,21 @@ module _ {s : Bytes} {l : Layout} (accepted : Accepted s l) (name : Bytes) where
 
 -- the answer to a byte string, by what is asked
 module _ (s : Bytes) (row : ℕ) (name : Bytes) where
-  range_numbers_law : (x : AttributeAt) → numbers (from_range x) ≡ range_numbers x
-  range_numbers_law Absent = refl
-  range_numbers_law (At at len) = refl
-
-  range_values_law : (x : AttributeAt) → values (from_range x) ≡ range_values x
-  range_values_law Absent = refl
-  range_values_law (At at len) = refl
-
   numbers_is : numbers (attribute_of s row name) ≡ attribute_numbers s row name
   unfolding attribute_of attribute_numbers
-  numbers_is = asked_by_sheet s row (λ x. numbers (attribute_to s row name x)) (λ l. range_numbers_law (range_of s l row name)) refl (λ v. refl)
+  numbers_is = asked_by_sheet s row (λ x. numbers (attribute_to s row name x)) (λ l. refl) refl (λ e. refl)
 
   values_is : values (attribute_of s row name) ≡ attribute_values s row name
   unfolding attribute_of attribute_values
-  values_is = asked_by_sheet s row (λ x. values (attribute_to s row name x)) (λ l. range_values_law (range_of s l row name)) refl (λ v. refl)
+  values_is = asked_by_sheet s row (λ x. values (attribute_to s row name x)) (λ l. refl) refl (λ e. refl)
 
-  pub attribute_is : {a : AttributeAnswer} {x : Asked} → a ≡ attribute_to s row name x → x ≡ asked_of s row
+  pub attribute_is : {a : Result (Option Span) QuestionError} {x : Result (Layout × Row) QuestionError} → a ≡ attribute_to s row name x → x ≡ asked_of s row
       → (a ≡ attribute_of s row name) × (numbers a ≡ attribute_numbers s row name) × (values a ≡ attribute_values s row name)
   unfolding attribute_of
   attribute_is {a} e q =
       let p : a ≡ attribute_to s row name (asked_of s row) = e ∙ ap (attribute_to s row name) q in
       (p, ap numbers p ∙ numbers_is, ap values p ∙ values_is)
 
-  pub attribute_found : {a : AttributeAnswer} {l : Layout} {r : Row} {x : AttributeAt} {k : ℕ} → a ≡ from_range x → x ≡ find_of s l name k r.attributes
-      → k ≡ counts_from s l 0 row → Of l r ≡ asked_of s row → (a ≡ attribute_of s row name) × (numbers a ≡ attribute_numbers s row name) × (values a ≡ attribute_values s row name)
-  attribute_found {a} {l} {r} e f g q = attribute_is (e ∙ ap from_range (f ∙ ap (λ (n : ℕ). find_of s l name n r.attributes) g)) q
+  pub attribute_found : {l : Layout} {r : Row} {x : Option Span} {k : ℕ} → x ≡ find_of s l name k r.attributes
+      → k ≡ counts_from s l 0 row → Ok (l, r) ≡ asked_of s row → (Ok x ≡ attribute_of s row name) × (numbers (Ok x) ≡ attribute_numbers s row name) × (values (Ok x) ≡ attribute_values s row name)
+  attribute_found {l} {r} f g q = attribute_is (ap Ok (f ∙ ap (λ (n : ℕ). find_of s l name n r.attributes) g)) q

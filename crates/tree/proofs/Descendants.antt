@@ -1,8 +1,9 @@
 -- The descendants of a row are the rows behind it up to the first one past.
+use Rattle.std.proofs.lemmas.Option.{none-some, same_Some}
+use Rattle.std.specs.Prelude.{Option, None, Some}
 use mathlib.Core.Path.{◌≡◌, refl, sym, ap, ◌∙◌}
 use mathlib.Core.List.{List, [], ◌∷◌, map}
 use mathlib.Core.Logic.{◌↔◌}
-use mathlib.Core.Option.{Option, none, some, some-injective, none-ne-some}
 use Prim.Native.Nat.{ℕ, zero, suc, ◌-◌, ◌≤◌, ◌<◌}
 use native.Mathlib.Omega.{arith}
 use lib.Dec.{eqb}
@@ -55,7 +56,7 @@ descendants depths w j =
 
 module _ (depths : List ℕ) (w : WellFormed depths) where
   -- behind the last row before k that is one less deep than d, up to k, which is d deep or more, every row is
-  above_between : (d k b : ℕ) → k < length depths → d ≤ get_or depths k 0 → last_above depths d k ≡ some b → (i : ℕ) → b < i → i ≤ k → d ≤ get_or depths i 0
+  above_between : (d k b : ℕ) → k < length depths → d ≤ get_or depths k 0 → last_above depths d k ≡ Some b → (i : ℕ) → b < i → i ≤ k → d ≤ get_or depths i 0
   above_between d zero b h g e i low high = absurd (omega arith)
   above_between d (suc j) b h g e i low high =
       above_or_not i j
@@ -64,13 +65,13 @@ module _ (depths : List ℕ) (w : WellFormed depths) where
       let x = get_or depths j 0 in
       by_test (eqb (suc x) d)
       (λ t.
-      let j_is : j ≡ b = some-injective j b (sym (above_suc_hit depths d j x refl (eqb-true (suc x) d t)) ∙ e) in
+      let j_is : j ≡ b = same_Some j b (sym (above_suc_hit depths d j x refl (eqb-true (suc x) d t)) ∙ e) in
       absurd (omega arith))
       (λ t.
       let miss = eqb-false (suc x) d t in
       above_between d j b (omega arith) (omega (arith, w.step j h)) (sym (above_suc_more depths d j x refl miss) ∙ e) i low m))
 
-  above_exists : (b d k : ℕ) → b < k → k < length depths → d ≤ get_or depths k 0 → get_or depths b 0 < d → (c : ℕ) × (b ≤ c) × (c < k) × (last_above depths d k ≡ some c)
+  above_exists : (b d k : ℕ) → b < k → k < length depths → d ≤ get_or depths k 0 → get_or depths b 0 < d → (c : ℕ) × (b ≤ c) × (c < k) × (last_above depths d k ≡ Some c)
   above_exists b d zero low h g less = absurd (omega arith)
   above_exists b d (suc j) low h g less =
       by_test (eqb (suc (get_or depths j 0)) d)
@@ -84,24 +85,24 @@ module _ (depths : List ℕ) (w : WellFormed depths) where
       (r.0, r.1, omega (arith, r.2), above_suc_more depths d j (get_or depths j 0) refl miss ∙ r.3))
       (λ m. let e : j ≡ b = omega arith in absurd (omega (arith, ap (λ (i : ℕ). get_or depths i 0) e))))
 
-  above_zero : (k : ℕ) → last_above depths 0 k ≡ none
+  above_zero : (k : ℕ) → last_above depths 0 k ≡ None
   above_zero zero = refl
   above_zero (suc j) = above_suc_more depths 0 j (get_or depths j 0) refl (omega arith) ∙ above_zero j
 
   -- a row with a parent is a row of the column
-  child_inside : (a b : ℕ) → parent_of depths a ≡ some b → a < length depths
+  child_inside : (a b : ℕ) → parent_of depths a ≡ Some b → a < length depths
   child_inside a b e =
       above_or_not (length depths) a (λ h. h)
       (λ h.
       let n = ap (λ (d : ℕ). last_above depths d a) (get_or-eq_default depths 0 {n = a} h) ∙ above_zero a in
-      absurd (none-ne-some b (sym n ∙ e)))
+      absurd (none-some b (sym n ∙ e)))
 
   -- the rows behind the parent of a row, up to the row itself, are deeper than the parent
-  parent_between : (a b : ℕ) → parent_of depths a ≡ some b → (i : ℕ) → b < i → i ≤ a → get_or depths b 0 < get_or depths i 0
+  parent_between : (a b : ℕ) → parent_of depths a ≡ Some b → (i : ℕ) → b < i → i ≤ a → get_or depths b 0 < get_or depths i 0
   parent_between a b e i low high =
       omega (arith, (above_found depths (get_or depths a 0) a b e).1, above_between (get_or depths a 0) a b (child_inside a b e) (omega arith) e i low high)
 
-  pub has_parent : (i : ℕ) → suc i < length depths → (q : ℕ) × (parent_of depths (suc i) ≡ some q)
+  pub has_parent : (i : ℕ) → suc i < length depths → (q : ℕ) × (parent_of depths (suc i) ≡ Some q)
   has_parent i h =
       let x = above_exists 0 (get_or depths (suc i) 0) (suc i) (omega arith) h (omega arith) (omega (arith, w.root, w.later i h)) in
       (x.0, x.3)
@@ -128,14 +129,14 @@ module _ (depths : List ℕ) (w : WellFormed depths) where
       let x = above_exists b (get_or depths a 0) a low (omega (arith, past_of_high depths b h)) (omega arith) (past_inside depths (get_or depths b 0) (suc b) a low high) in
       trichotomy x.0 b
       (λ g. below (up b h n x.0 (omega (arith, x.2)) g (omega (arith, x.2))) x.3)
-      (λ e. child (x.3 ∙ ap {B = Option ℕ} some e))
+      (λ e. child (x.3 ∙ ap {B = Option ℕ} Some e))
       (λ g. absurd (omega (arith, x.1)))
 
   pub descendant_is : (j : ℕ) → j < length depths → (i : ℕ) → Descendant (parent_of depths) j i ↔ ((j < i) × (i < past_of depths j))
   descendant_is j h i = (down j i, λ r. up j h (suc i) i (omega arith) r.0 r.1)
 
   -- where the row past row j is no deeper than its parent, it is the first past the parent too
-  pub past_up : (j q : ℕ) → parent_of depths j ≡ some q → (past_of depths j < length depths → get_or depths (past_of depths j) 0 ≤ get_or depths q 0) → past_of depths q ≡ past_of depths j
+  pub past_up : (j q : ℕ) → parent_of depths j ≡ Some q → (past_of depths j < length depths → get_or depths (past_of depths j) 0 ≤ get_or depths q 0) → past_of depths q ≡ past_of depths j
   past_up j q e at =
       let x = above_found depths (get_or depths j 0) j q e in
       past_is depths (get_or depths q 0) (suc q) (past_of depths j) (omega (arith, x.0, past_of_low depths j)) (past_of_high depths j (child_inside j q e))

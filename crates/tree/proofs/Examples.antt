@@ -1,8 +1,8 @@
 -- Small trees by computation: navigation, forest, text content and attributes.
+use Rattle.std.specs.Prelude.{Option, None, Some}
 use mathlib.Core.Path.{◌≡◌, refl}
 use mathlib.Core.Bool.{Bool, true, ◌&&◌}
 use mathlib.Core.List.{List, [], ◌∷◌, ◌++◌, map}
-use mathlib.Core.Option.{Option, none, some}
 use Prim.Native.Nat.{ℕ, zero, suc, ◌≤◌, ◌<◌}
 use native.Mathlib.Omega.{arith}
 use lib.Dec.{ltb, leb}
@@ -29,28 +29,28 @@ leaf i rest = node i empty rest
 
 abbrev examples : List Example
 examples =
-    record { depths = 0 ∷ []; forest = leaf 0 empty; rows = (none, none, none, 1) ∷ [] }
+    record { depths = 0 ∷ []; forest = leaf 0 empty; rows = (None, None, None, 1) ∷ [] }
     ∷ record {
       depths = 0 ∷ 1 ∷ 2 ∷ 2 ∷ 1 ∷ [];
       forest = node 0 (node 1 (leaf 2 (leaf 3 empty)) (leaf 4 empty)) empty;
       rows =
-          (none, some 1, none, 5)
-          ∷ (some 0, some 2, some 4, 4)
-          ∷ (some 1, none, some 3, 3)
-          ∷ (some 1, none, none, 4)
-          ∷ (some 0, none, none, 5)
+          (None, Some 1, None, 5)
+          ∷ (Some 0, Some 2, Some 4, 4)
+          ∷ (Some 1, None, Some 3, 3)
+          ∷ (Some 1, None, None, 4)
+          ∷ (Some 0, None, None, 5)
           ∷ [];
     }
     ∷ record {
       depths = 0 ∷ 1 ∷ 1 ∷ 2 ∷ 3 ∷ 1 ∷ [];
       forest = node 0 (leaf 1 (node 2 (node 3 (leaf 4 empty) empty) (leaf 5 empty))) empty;
       rows =
-          (none, some 1, none, 6)
-          ∷ (some 0, none, some 2, 2)
-          ∷ (some 0, some 3, some 5, 5)
-          ∷ (some 2, some 4, none, 5)
-          ∷ (some 3, none, none, 5)
-          ∷ (some 0, none, none, 6)
+          (None, Some 1, None, 6)
+          ∷ (Some 0, None, Some 2, 2)
+          ∷ (Some 0, Some 3, Some 5, 5)
+          ∷ (Some 2, Some 4, None, 5)
+          ∷ (Some 3, None, None, 5)
+          ∷ (Some 0, None, None, 6)
           ∷ [];
     }
     ∷ []
@@ -129,7 +129,7 @@ page_holds : tags_and_texts (forest_of (0 ∷ 1 ∷ 2 ∷ 2 ∷ 1 ∷ []))
 unfolding codes build numbered preorder tag concatenated text_content
 page_holds = refl
 
-attributes_hold : map (attribute attributes_of_p) (codes "class" ∷ codes "id" ∷ codes "name" ∷ []) ≡ some (codes "x") ∷ some (codes "y") ∷ none ∷ []
+attributes_hold : map (attribute attributes_of_p) (codes "class" ∷ codes "id" ∷ codes "name" ∷ []) ≡ Some (codes "x") ∷ Some (codes "y") ∷ None ∷ []
 unfolding codes same attribute
 attributes_hold = refl
 

@@ -1,12 +1,13 @@
 -- A row's tag; an attribute by name is the first of that name, and one step of the search for it.
+use Rattle.std.proofs.lemmas.Option.{none-some, same_Some}
+use Rattle.std.specs.Prelude.{None, Some, slice_get}
 use mathlib.Core.Path.{◌≡◌, refl, sym, ap, ◌∙◌}
 use mathlib.Core.Bool.{true, false}
 use mathlib.Core.List.{List, [], ◌∷◌}
-use mathlib.Core.Option.{none, some, some-injective, none-ne-some}
 use Prim.Native.Nat.{ℕ, zero, suc, ◌+◌, ◌≤◌, ◌<◌}
 use native.Mathlib.Omega.{arith}
 use native.Mathlib.Numerals.{add-one}
-use lib.ListN.{length, get_or, drop, get_elem?, drop_of_length-le}
+use lib.ListN.{length, get_or, drop, drop_of_length-le}
 use lib.Seq.{drop-cons}
 use Rattle.common.specs.Bytes.{Bytes, same}
 use Rattle.common.proofs.Choice.{by_test, absurd_test}
@@ -31,7 +32,7 @@ module _ (n : Node) where
 -- ---- an attribute by name
 
 module _ (a : Attribute) (l : List Attribute) (name : Bytes) where
-  pub attribute_cons_here : same a.name name ≡ true → attribute (a ∷ l) name ≡ some a.value
+  pub attribute_cons_here : same a.name name ≡ true → attribute (a ∷ l) name ≡ Some a.value
   unfolding attribute
   attribute_cons_here e = rw (e, attribute)
 
@@ -47,33 +48,33 @@ module _ (name : Bytes) where
   first_cons : (a : Attribute) (l : List Attribute) (i : ℕ) (b : Attribute) → (a.name ≡ name → ⊥) → FirstOfName l name i b → FirstOfName (a ∷ l) name (suc i) b
   first_cons a l i b n f = record { there = f.there; named = f.named; earlier = go }
     where
-      go : (k : ℕ) (c : Attribute) → k < suc i → get_elem? (a ∷ l) k ≡ some c → c.name ≡ name → ⊥
-      go zero c h e q = n (ap (λ (x : Attribute). x.name) (some-injective a c e) ∙ q)
+      go : (k : ℕ) (c : Attribute) → k < suc i → slice_get (a ∷ l) k ≡ Some c → c.name ≡ name → ⊥
+      go zero c h e q = n (ap (λ (x : Attribute). x.name) (same_Some a c e) ∙ q)
       go (suc k) c h e q = f.earlier k c (omega arith) e q
 
-  found : (l : List Attribute) (i : ℕ) (a : Attribute) → FirstOfName l name i a → attribute l name ≡ some a.value
+  found : (l : List Attribute) (i : ℕ) (a : Attribute) → FirstOfName l name i a → attribute l name ≡ Some a.value
   found [] i a f = cc
   found (b ∷ l) zero a f =
-      let e = some-injective b a f.there in
+      let e = same_Some b a f.there in
       rw e (attribute_cons_here a l name (same_of a.name name f.named))
   found (b ∷ l) (suc i) a f =
       attribute_cons_next b l name (same_not b.name name (λ q. f.earlier 0 b (omega arith) refl q)) ∙ found l i a (first_tail b l i a f)
 
-  absent : (l : List Attribute) → ((i : ℕ) (a : Attribute) → get_elem? l i ≡ some a → a.name ≡ name → ⊥) → attribute l name ≡ none
+  absent : (l : List Attribute) → ((i : ℕ) (a : Attribute) → slice_get l i ≡ Some a → a.name ≡ name → ⊥) → attribute l name ≡ None
   unfolding attribute
   absent [] n = refl
   absent (b ∷ l) n = attribute_cons_next b l name (same_not b.name name (n 0 b refl)) ∙ absent l (λ i. n (suc i))
 
-  only : (l : List Attribute) (value : Bytes) → attribute l name ≡ some value → (i : ℕ) × (a : Attribute) × FirstOfName l name i a × (a.value ≡ value)
+  only : (l : List Attribute) (value : Bytes) → attribute l name ≡ Some value → (i : ℕ) × (a : Attribute) × FirstOfName l name i a × (a.value ≡ value)
   unfolding attribute
-  only [] value e = absurd (none-ne-some value e)
+  only [] value e = absurd (none-some value e)
   only (b ∷ l) value e =
       by_test (same b.name name)
       (λ q. (
         0,
         b,
         record { there = refl; named = same_true b.name name q; earlier = λ k c h. absurd (omega arith) },
-        some-injective b.value value (sym (attribute_cons_here b l name q) ∙ e),
+        same_Some b.value value (sym (attribute_cons_here b l name q) ∙ e),
       ))
       (λ q.
       let r = only l value (sym (attribute_cons_next b l name q) ∙ e) in
@@ -89,12 +90,12 @@ module _ (attributes : List Attribute) (name : Bytes) (i : ℕ) where
     left_is : drop i attributes ≡ a ∷ drop (suc i) attributes
     left_is = rw e (drop-cons attributes i d h)
 
-    pub attribute_here : same a.name name ≡ true → attribute (drop i attributes) name ≡ some a.value
+    pub attribute_here : same a.name name ≡ true → attribute (drop i attributes) name ≡ Some a.value
     attribute_here q = rw left_is (attribute_cons_here a (drop (suc i) attributes) name q)
 
     pub attribute_next : same a.name name ≡ false → attribute (drop i attributes) name ≡ attribute (drop (i + 1) attributes) name
     attribute_next q = rw (add-one, left_is) (attribute_cons_next a (drop (suc i) attributes) name q)
 
-  pub attribute_end : length attributes ≤ i → attribute (drop i attributes) name ≡ none
+  pub attribute_end : length attributes ≤ i → attribute (drop i attributes) name ≡ None
   unfolding attribute
   attribute_end h = rw (drop_of_length-le attributes {i = i} h)

@@ -1,7 +1,8 @@
 -- The first row past a subtree: what lies before it, what the searches find from there on, and the next sibling.
+use Rattle.std.proofs.lemmas.Option.{none-some, same_Some}
+use Rattle.std.specs.Prelude.{None, Some}
 use mathlib.Core.Path.{◌≡◌, refl, sym, ap, ◌∙◌}
 use mathlib.Core.List.{List, [], ◌∷◌}
-use mathlib.Core.Option.{none, some, some-injective, none-ne-some}
 use Prim.Native.Nat.{ℕ, suc, ◌+◌, ◌≤◌, ◌<◌}
 use native.Mathlib.Omega.{arith}
 use lib.Dec.{eqb}
@@ -123,10 +124,10 @@ module _ (depths : List ℕ) where
       from_past : scan_of d k (drop k depths) ≡ scan_of d s (drop s depths)
       from_past = rw s_is (scan_skip d (omega arith) k)
 
-      pub past_some : s < length depths → get_or depths s 0 ≡ d → scan_of d k (drop k depths) ≡ some s
+      pub past_some : s < length depths → get_or depths s 0 ≡ d → scan_of d k (drop k depths) ≡ Some s
       past_some h e = from_past ∙ scan_hit depths d s (get_or depths s 0) h refl e
 
-      pub past_none : (s < length depths → get_or depths s 0 ≡ d → ⊥) → scan_of d k (drop k depths) ≡ none
+      pub past_none : (s < length depths → get_or depths s 0 ≡ d → ⊥) → scan_of d k (drop k depths) ≡ None
       past_none n =
           from_past
           ∙ above_or_not (length depths) s
@@ -136,7 +137,7 @@ module _ (depths : List ℕ) where
           scan_less depths d s (get_or depths s 0) h refl (omega arith))
           (λ h. scan_done depths d s h)
 
-    pub scan_past : (k s : ℕ) → scan_of d k (drop k depths) ≡ some s → PastAtDepth depths d k s
+    pub scan_past : (k s : ℕ) → scan_of d k (drop k depths) ≡ Some s → PastAtDepth depths d k s
     scan_past k s q =
         let p = past_from d k (drop k depths) in
         above_or_not (length depths) p
@@ -144,20 +145,20 @@ module _ (depths : List ℕ) where
         by_test (eqb (get_or depths p 0) d)
         (λ t.
         let at = eqb-true (get_or depths p 0) d t in
-        let s_is : p ≡ s = some-injective p s (sym (past_some k p refl h at) ∙ q) in
+        let s_is : p ≡ s = same_Some p s (sym (past_some k p refl h at) ∙ q) in
         record { past = sym s_is; inside = rw (← s_is) h; depth = rw (← s_is) at })
-        (λ t. absurd (none-ne-some s (sym (past_none k p refl (λ i. eqb-false (get_or depths p 0) d t)) ∙ q))))
-        (λ h. absurd (none-ne-some s (sym (past_none k p refl (λ i. absurd (omega arith))) ∙ q)))
+        (λ t. absurd (none-some s (sym (past_none k p refl (λ i. eqb-false (get_or depths p 0) d t)) ∙ q))))
+        (λ h. absurd (none-some s (sym (past_none k p refl (λ i. absurd (omega arith))) ∙ q)))
 
   pub sibling_past : (j : ℕ) → SiblingPast depths j
   sibling_past j s = (scan_past (get_or depths j 0) (suc j) s, λ p. past_some (get_or depths j 0) (suc j) s p.past p.inside p.depth)
 
   -- ---- the first child of a row is the next row, if that is deeper
 
-  pub first_child_next : WellFormed depths → (j : ℕ) → suc j < length depths → get_or depths j 0 < get_or depths (suc j) 0 → first_child_of depths j ≡ some (suc j)
+  pub first_child_next : WellFormed depths → (j : ℕ) → suc j < length depths → get_or depths j 0 < get_or depths (suc j) 0 → first_child_of depths j ≡ Some (suc j)
   first_child_next w j h g = scan_hit depths (suc (get_or depths j 0)) (suc j) (get_or depths (suc j) 0) h refl (omega (arith, w.step j h))
 
-  pub first_child_none : (j : ℕ) → (suc j < length depths → get_or depths (suc j) 0 ≤ get_or depths j 0) → first_child_of depths j ≡ none
+  pub first_child_none : (j : ℕ) → (suc j < length depths → get_or depths (suc j) 0 ≤ get_or depths j 0) → first_child_of depths j ≡ None
   first_child_none j n =
       above_or_not (length depths) (suc j)
       (λ h. scan_less depths (suc (get_or depths j 0)) (suc j) (get_or depths (suc j) 0) h refl (omega (arith, n h)))

@@ -1,9 +1,9 @@
 -- Every row of a depth column has one place in its forest; parent, first child and next sibling there are those of the column.
+use Rattle.std.specs.Prelude.{Option, None, Some}
 use mathlib.Core.Path.{◌≡◌, refl, sym, ap, subst, ◌∙◌}
 use mathlib.Core.List.Memᴰ
 use mathlib.Core.List.{List, [], ◌∷◌, Memᴰ}
 use mathlib.Core.Logic.{inl, inr, ⊎_elim}
-use mathlib.Core.Option.{Option, none, some}
 use Prim.Native.Nat.{ℕ, zero, suc, ◌+◌, ◌<◌}
 use native.Mathlib.Omega.{arith}
 use lib.ListN.{length, get_or, drop}
@@ -65,24 +65,24 @@ module _ (depths : List ℕ) where
       ⊎_elim
       (λ h. rw (← h.0, ← h.1, ← h.2, ← h.3) (here k d x l e s p p_is))
       (⊎_elim
-      (λ u. place_from (suc k) (suc d) l t_is (some k) (sym (above_suc_hit depths (suc d) k x x_is (omega arith))) q j cs rs u)
+      (λ u. place_from (suc k) (suc d) l t_is (Some k) (sym (above_suc_hit depths (suc d) k x x_is (omega arith))) q j cs rs u)
       (λ u. place_from (suc k) d l t_is p (p_is ∙ sym (above_suc_more depths d k x x_is (omega arith))) q j cs rs u))
       (subst place_in (build_here (x, k) (numbered (suc k) l) d s) w))
       (λ g. absurd (subst place_in (build_less (x, k) (numbered (suc k) l) d g) w))
 
-  pub place_is : (q : Option ℕ) (j : ℕ) (cs rs : Forest ℕ) → Place none (forest_of depths) q j cs rs → PlaceIs depths q j cs rs
-  place_is q j cs rs w = place_from 0 0 depths refl none refl q j cs rs w
+  pub place_is : (q : Option ℕ) (j : ℕ) (cs rs : Forest ℕ) → Place None (forest_of depths) q j cs rs → PlaceIs depths q j cs rs
+  place_is q j cs rs w = place_from 0 0 depths refl None refl q j cs rs w
 
 -- ---- a place among the children or the later siblings of a place is a place
 
 module _ {A : Type 0} (q : Option A) (a : A) (cs rs : Forest A) (r : Option A) (b : A) (ds es : Forest A) where
-  pub place_below : (p : Option A) (f : Forest A) → Place p f q a cs rs → Place (some a) cs r b ds es → Place p f r b ds es
+  pub place_below : (p : Option A) (f : Forest A) → Place p f q a cs rs → Place (Some a) cs r b ds es → Place p f r b ds es
   unfolding Place
   place_below p empty w v = absurd w
   place_below p (node i c l) w v =
       ⊎_elim
       (λ h. inr (inl (rw (h.1, h.2) v)))
-      (⊎_elim (λ u. inr (inl (place_below (some i) c u v))) (λ u. inr (inr (place_below p l u v))))
+      (⊎_elim (λ u. inr (inl (place_below (Some i) c u v))) (λ u. inr (inr (place_below p l u v))))
       w
 
   pub place_beside : (p : Option A) (f : Forest A) → Place p f q a cs rs → Place q rs r b ds es → Place p f r b ds es
@@ -91,7 +91,7 @@ module _ {A : Type 0} (q : Option A) (a : A) (cs rs : Forest A) (r : Option A) (
   place_beside p (node i c l) w v =
       ⊎_elim
       (λ h. inr (inr (rw (h.0, h.3) v)))
-      (⊎_elim (λ u. inr (inl (place_beside (some i) c u v))) (λ u. inr (inr (place_beside p l u v))))
+      (⊎_elim (λ u. inr (inl (place_beside (Some i) c u v))) (λ u. inr (inr (place_beside p l u v))))
       w
 
 -- ---- every row has a place
@@ -110,7 +110,7 @@ somewhere p d (node i cs rs) r m =
     (λ e. record { parent = p; children = cs; rest = rs; place = inl (refl, ap (λ (x : ℕ × ℕ). x.1) (sym e), refl, refl) })
     (λ n.
     ⊎_elim
-    (λ u. let s = somewhere (some i) (suc d) cs r u in record { parent = s.parent; children = s.children; rest = s.rest; place = inr (inl s.place) })
+    (λ u. let s = somewhere (Some i) (suc d) cs r u in record { parent = s.parent; children = s.children; rest = s.rest; place = inr (inl s.place) })
     (λ u. let s = somewhere p d rs r u in record { parent = s.parent; children = s.children; rest = s.rest; place = inr (inr s.place) })
     (Memᴰ.append_cases (preorder_at (suc d) cs) n))
     (Memᴰ.cases_cons m)
@@ -127,8 +127,8 @@ module _ (depths : List ℕ) (w : WellFormed depths) where
   pub tree_of_numbered : TreeOf (numbered 0 depths) (forest_of depths)
   tree_of_numbered = tree_of (numbered 0 depths) (rw depths_numbered w)
 
-  pub each_row : (j : ℕ) → j < length depths → Somewhere none (forest_of depths) j
+  pub each_row : (j : ℕ) → j < length depths → Somewhere None (forest_of depths) j
   each_row j h =
       let q : 0 + j ≡ j = omega arith in
-      subst (Somewhere none (forest_of depths)) q
-      (somewhere none 0 (forest_of depths) (get_or depths j 0, 0 + j) (rw tree_of_numbered.order (numbered_mem 0 depths j h)))
+      subst (Somewhere None (forest_of depths)) q
+      (somewhere None 0 (forest_of depths) (get_or depths j 0, 0 + j) (rw tree_of_numbered.order (numbered_mem 0 depths j h)))

@@ -1,10 +1,10 @@
 -- The page of an accepted sheet: its column is that of a tree, and what its rows show is UTF-8.
+use Rattle.std.proofs.lemmas.Option.{none-some, same_Some}
+use Rattle.std.specs.Prelude.{Some, slice_get}
 use mathlib.Core.Path.{◌≡◌, refl, sym, ap, ◌∙◌}
-use mathlib.Core.Option.{some, some-injective, none-ne-some}
 use Prim.Native.Nat.{ℕ, zero, suc, ◌+◌, ◌<◌}
 use native.Mathlib.Omega.{arith}
 use lib.Dec.{lit≤}
-use lib.ListN.{get_elem?}
 use Rattle.common.specs.Bytes.{Bytes}
 use Rattle.sheet.specs.Layout.{row_at, depths}
 use Rattle.sheet.specs.Verdict.{counts_from}
@@ -26,12 +26,12 @@ range_is_value s l i name = find_is s l name (counts_from s l 0 i) (row_at s l i
 
 module _ (s : Bytes) (l : Layout) where
   -- an attribute among n from line j on is one of those lines
-  attribute_line : (j n k : ℕ) (a : Attribute) → get_elem? (attributes_from s l j n) k ≡ some a → (k < n) × (a ≡ record { name = name_at s l (j + k); value = value_at s l (j + k) })
+  attribute_line : (j n k : ℕ) (a : Attribute) → slice_get (attributes_from s l j n) k ≡ Some a → (k < n) × (a ≡ record { name = name_at s l (j + k); value = value_at s l (j + k) })
   unfolding attributes_from
-  attribute_line j zero k a e = absurd (none-ne-some a e)
+  attribute_line j zero k a e = absurd (none-some a e)
   attribute_line j (suc n) zero a e =
       let z : j + 0 ≡ j = omega arith in
-      (omega arith, rw z (sym (some-injective _ a e)))
+      (omega arith, rw z (sym (same_Some _ a e)))
   attribute_line j (suc n) (suc k) a e =
       let z : j + suc k ≡ suc j + k = omega arith in
       let r = attribute_line (suc j) n k a e in

@@ -1,8 +1,8 @@
 -- The rows below a row of a depth column stand as its forest has them: parent, first child and next sibling.
+use Rattle.std.specs.Prelude.{Option, None, Some}
 use mathlib.Core.Path.{◌≡◌, refl, ◌∙◌}
 use mathlib.Core.Bool.{false}
 use mathlib.Core.List.{List, [], ◌∷◌}
-use mathlib.Core.Option.{Option, none, some}
 use Prim.Native.Nat.{ℕ, suc, ◌<◌}
 use native.Mathlib.Omega.{arith}
 use lib.Dec.{eqb}
@@ -20,19 +20,19 @@ module _ (depths : List ℕ) (root : ℕ) where
   pub record RowStands (i p : ℕ) : Type 0 where
     pub inside : i < length depths
     pub below : eqb i root ≡ false
-    pub parent : parent_of depths i ≡ some p
+    pub parent : parent_of depths i ≡ Some p
 
   -- the rows of f stand below p, and the first of them is c
   abbrev pub Stands : Forest ℕ → Option ℕ → ℕ → Type 0
-  Stands empty c p = c ≡ none
+  Stands empty c p = c ≡ None
   Stands (node i children rest) c p =
-      (c ≡ some i) × RowStands i p × Stands children (first_child_of depths i) i × Stands rest (next_sibling_of depths i) p
+      (c ≡ Some i) × RowStands i p × Stands children (first_child_of depths i) i × Stands rest (next_sibling_of depths i) p
 
   module _ (k d x : ℕ) (l : List ℕ) (e : x ∷ l ≡ drop k depths) where
-    stands_here : (p : ℕ) → root < k → x ≡ suc d → last_above depths (suc d) k ≡ some p
+    stands_here : (p : ℕ) → root < k → x ≡ suc d → last_above depths (suc d) k ≡ Some p
         → (Stands (build (numbered (suc k) l) (suc (suc d))) (scan_of (suc (suc d)) (suc k) l) k)
         → (Stands (build (numbered (suc k) l) (suc d)) (scan_of (suc d) (suc k) l) p)
-        → Stands (node k (build (numbered (suc k) l) (suc (suc d))) (build (numbered (suc k) l) (suc d))) (some k) p
+        → Stands (node k (build (numbered (suc k) l) (suc (suc d))) (build (numbered (suc k) l) (suc d))) (Some k) p
     stands_here p r q a children rest =
         let depth : get_or depths k 0 ≡ suc d = left_head depths k x l e 0 ∙ q in
         let left = left_tail depths k x l e in (
@@ -42,7 +42,7 @@ module _ (depths : List ℕ) (root : ℕ) where
           rw (depth, ← left) rest,
         )
 
-  stands : (k d : ℕ) (l : List ℕ) → l ≡ drop k depths → root < k → (p : ℕ) → last_above depths (suc d) k ≡ some p
+  stands : (k d : ℕ) (l : List ℕ) → l ≡ drop k depths → root < k → (p : ℕ) → last_above depths (suc d) k ≡ Some p
       → Stands (build (numbered k l) (suc d)) (scan_of (suc d) k l) p
   unfolding build numbered scan_of
   stands k d [] e r p a = refl

@@ -1,4 +1,5 @@
 -- The length of a collapsed text content, as a loop over the rows counts it, and its bound.
+use Rattle.std.specs.Prelude.{Result}
 use mathlib.Core.Path.{◌≡◌, refl, sym, ap, ◌∙◌}
 use mathlib.Core.Bool.{false}
 use mathlib.Core.List.{List, [], ◌∷◌, ◌++◌}
@@ -23,10 +24,9 @@ use Rattle.tree.specs.Node.{element, Node}
 use Rattle.tree.specs.Page.{widest_pool, node_at}
 use Rattle.tree.specs.Rows.{WellFormed, children_of, past_of, rows_from}
 use Rattle.tree.specs.TextContent.{text_data, concatenated, descendant_text, text_content, text_of_rows}
+use Rattle.tree.specs.declared.questions.QuestionError.{QuestionError}
 use Rattle.tree.specs.TextLength.{text_length, squeezed_on, length_to, length_of, numbers, length_numbers}
 use Rattle.tree.specs.Questions.{asked_of}
-use Rattle.tree.specs.declared.content.LengthAnswer.{LengthAnswer}
-use Rattle.tree.specs.declared.questions.Asked.{Asked}
 use Rattle.tree.proofs.QuestionsLaws.{asked_by_sheet}
 use Rattle.tree.proofs.Column.{below_length}
 use Rattle.tree.proofs.Descendants.{descendants}
@@ -133,6 +133,6 @@ module _ (s : Bytes) (row : ℕ) where
   unfolding length_of length_numbers
   numbers_is = asked_by_sheet s row (λ x. numbers (length_to s row x)) (λ l. refl) refl (λ v. refl)
 
-  pub length_is : {a : LengthAnswer} {x : Asked} → a ≡ length_to s row x → x ≡ asked_of s row → (a ≡ length_of s row) × (numbers a ≡ length_numbers s row)
+  pub length_is : {a : Result ℕ QuestionError} {x : Result (Layout × Row) QuestionError} → a ≡ length_to s row x → x ≡ asked_of s row → (a ≡ length_of s row) × (numbers a ≡ length_numbers s row)
   unfolding length_of
   length_is {a} e q = let p : a ≡ length_to s row (asked_of s row) = e ∙ ap (length_to s row) q in (p, ap numbers p ∙ numbers_is)

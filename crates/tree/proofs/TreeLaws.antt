@@ -1,7 +1,7 @@
 -- The tree of a well-formed depth column: the theorem that specs/Tree.antt states.
+use Rattle.std.specs.Prelude.{Option, None}
 use mathlib.Core.Path.{◌≡◌, refl, sym, ap, ◌∙◌}
 use mathlib.Core.List.{List, [], ◌∷◌}
-use mathlib.Core.Option.{Option, none}
 use Prim.Native.Nat.{ℕ, suc, ◌+◌, ◌<◌}
 use native.Mathlib.Numerals.{add-one}
 use native.Mathlib.Omega.{arith}
@@ -58,7 +58,7 @@ tree_of_column depths w = record { tree = tree_of_numbered depths w; root = one_
 
 -- the text of an element at its place, as a loop gathers it
 pub text_at_place : (depths : List ℕ) → WellFormed depths → (node_of : ℕ → Node) (q : Option ℕ) (j : ℕ) (children rest : Forest ℕ)
-    → Place none (forest_of depths) q j children rest → (node_of j).kind ≡ element → text_content node_of j children ≡ text_below node_of depths (get_or depths j 0) (j + 1)
+    → Place None (forest_of depths) q j children rest → (node_of j).kind ≡ element → text_content node_of j children ≡ text_below node_of depths (get_or depths j 0) (j + 1)
 text_at_place depths w node_of q j children rest v e =
     text_of_element node_of j children e
     ∙ ap (descendant_text node_of) (place_is depths q j children rest v).children_are

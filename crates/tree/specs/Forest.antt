@@ -1,6 +1,5 @@
 -- A list of trees, with the terms of the DOM standard, section 1.1 "Trees" (https://dom.spec.whatwg.org/#trees).
-use Rattle.std.specs.Prelude.{◌≡◌, Bool, true, false, List, [], ◌∷◌, ◌++◌, ◌⊎◌, ℕ, suc}
-use Rattle.std.proofs.Math.Option.{Option, none, some}
+use Rattle.std.specs.Prelude.{◌≡◌, Bool, true, false, List, [], ◌∷◌, ◌++◌, ◌⊎◌, ℕ, suc, Option, None, Some}
 
 -- a row, its children and its later siblings
 pub data Forest (A : Type 0) : Type 0 where
@@ -26,18 +25,18 @@ module _ {A : Type 0} where
   -- Of the children of a row: "the first child of an object is its first child or null if it has no children".
   -- Of its later siblings: "the next sibling of an object is its first following sibling or null if it has no following sibling".
   unfoldable pub first : Forest A → Option A
-  first empty = none
-  first (node a children rest) = some a
+  first empty = None
+  first (node a children rest) = Some a
 
   -- "An object that participates in a tree has a parent, which is either null or an object, and has children, which is an ordered set of objects."
   -- In a forest whose trees have the parent p there stands row a: its parent is q, its children are `children`, its later siblings `rest`.
   unfoldable pub Place : Option A → Forest A → Option A → A → Forest A → Forest A → Type 0
   Place p empty q a children rest = ⊥
   Place p (node b below later) q a children rest =
-      ((p ≡ q) × (b ≡ a) × (below ≡ children) × (later ≡ rest)) ⊎ (Place (some b) below q a children rest ⊎ Place p later q a children rest)
+      ((p ≡ q) × (b ≡ a) × (below ≡ children) × (later ≡ rest)) ⊎ (Place (Some b) below q a children rest ⊎ Place p later q a children rest)
 
 -- "An object A is called a descendant of an object B, if either A is a child of B or A is a child of an object C that is a descendant of B."
 -- `parent_of` says the parent of each row.
 pub data Descendant {A : Type 0} (parent_of : A → Option A) (b : A) : A → Type 0 where
-  child : {a : A} → parent_of a ≡ some b → Descendant parent_of b a
-  below : {a c : A} → Descendant parent_of b c → parent_of a ≡ some c → Descendant parent_of b a
+  child : {a : A} → parent_of a ≡ Some b → Descendant parent_of b a
+  below : {a c : A} → Descendant parent_of b c → parent_of a ≡ Some c → Descendant parent_of b a

@@ -1,6 +1,5 @@
 -- The forest of a list of rows with their depths, and the searches of a depth column (document 01, "The sheet").
-use Rattle.std.specs.Prelude.{◌≡◌, Bool, true, false, ◌&&◌, List, [], ◌∷◌, map, ℕ, zero, suc, ◌≤◌, ◌<◌, ltb, eqb, length, get_or, drop}
-use Rattle.std.proofs.Math.Option.{Option, none, some}
+use Rattle.std.specs.Prelude.{◌≡◌, Bool, true, false, ◌&&◌, List, [], ◌∷◌, map, ℕ, zero, suc, ◌≤◌, ◌<◌, ltb, eqb, length, get_or, drop, Option, None, Some}
 use Rattle.tree.specs.Forest.{Forest, empty, node}
 
 -- The depth column of an accepted sheet, by refusal 14: "row 0 is not an element named body at depth 0 ..; a later depth is 0, above 500 or more than one above the row before".
@@ -49,8 +48,8 @@ rows_from i (suc n) = i ∷ rows_from (suc i) n
 
 -- the first row at depth d, before any that is less deep; j is the number of the list's first row
 unfoldable pub scan_of : ℕ → ℕ → List ℕ → Option ℕ
-scan_of d j [] = none
-scan_of d j (x ∷ depths) = elim (ltb x d) [ true ↦ none | false ↦ elim (eqb x d) [ true ↦ some j | false ↦ scan_of d (suc j) depths ] ]
+scan_of d j [] = None
+scan_of d j (x ∷ depths) = elim (ltb x d) [ true ↦ None | false ↦ elim (eqb x d) [ true ↦ Some j | false ↦ scan_of d (suc j) depths ] ]
 
 abbrev pub first_child_of : List ℕ → ℕ → Option ℕ
 first_child_of depths i = scan_of (suc (get_or depths i 0)) (suc i) (drop (suc i) depths)

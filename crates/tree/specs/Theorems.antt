@@ -1,11 +1,8 @@
 -- What is to be shown of every column of depths, every list of attributes and every accepted sheet, as types.
-use Rattle.std.specs.Prelude.{◌≡◌, List, ℕ, suc, ◌-◌, ◌<◌, length}
-use Rattle.std.proofs.Math.Option.{some}
-use Rattle.std.proofs.Math.ListN.{get_elem?}
+use Rattle.std.specs.Prelude.{◌≡◌, List, ℕ, suc, ◌-◌, ◌<◌, length, Some, Ok, slice_get}
 use Rattle.common.specs.Bytes.{Bytes}
 use Rattle.sheet.specs.Verdict.{verdict}
 use Rattle.sheet.specs.declared.line.Layout.{Layout}
-use Rattle.sheet.specs.declared.verdict.Verdict.TheVariants.{Sheet}
 use Rattle.utf8.specs.Encoding.{UTF8}
 use Rattle.tree.specs.Attributes.{value_in, range_of}
 use Rattle.tree.specs.Node.{element, Attribute, attribute, AttributeByName}
@@ -43,7 +40,7 @@ pub record SheetTree (s : Bytes) (l : Layout) : Type 0 where
   -- every range that a row shows
   pub name : (i : ℕ) → i < l.nodes → UTF8 ((page_of s l).node i).name
   pub value : (i : ℕ) → i < l.nodes → UTF8 ((page_of s l).node i).value
-  pub attributes : (i : ℕ) → i < l.nodes → (k : ℕ) (a : Attribute) → get_elem? ((page_of s l).node i).attributes k ≡ some a → UTF8 a.name × UTF8 a.value
+  pub attributes : (i : ℕ) → i < l.nodes → (k : ℕ) (a : Attribute) → slice_get ((page_of s l).node i).attributes k ≡ Some a → UTF8 a.name × UTF8 a.value
 
 abbrev pub SheetIsTree : Type 0
-SheetIsTree = (s : Bytes) (l : Layout) → verdict s ≡ Sheet l → SheetTree s l
+SheetIsTree = (s : Bytes) (l : Layout) → verdict s ≡ Ok l → SheetTree s l

@@ -1,6 +1,5 @@
 -- What is to be shown of the tree of a sheet, as types.
-use Rattle.std.specs.Prelude.{◌≡◌, List, ◌↔◌, ℕ, suc, ◌-◌, ◌<◌, length, get_or, drop}
-use Rattle.std.proofs.Math.Option.{Option, none, some}
+use Rattle.std.specs.Prelude.{◌≡◌, List, ◌↔◌, ℕ, suc, ◌-◌, ◌<◌, length, get_or, drop, Option, None, Some}
 use Rattle.sheet.specs.Column.{parent_of}
 use Rattle.tree.specs.Forest.{Forest, empty, node, preorder, preorder_at, first, Place, Descendant}
 use Rattle.tree.specs.Node.{element, Node}
@@ -17,8 +16,8 @@ pub record RowOf (depths : List ℕ) (forest : Forest ℕ) (j : ℕ) : Type 0 wh
   pub parent : Option ℕ
   pub children : Forest ℕ
   pub rest : Forest ℕ
-  pub place : Place none forest parent j children rest
-  pub only : (q : Option ℕ) (cs rs : Forest ℕ) → Place none forest q j cs rs → (q ≡ parent) × (cs ≡ children) × (rs ≡ rest)
+  pub place : Place None forest parent j children rest
+  pub only : (q : Option ℕ) (cs rs : Forest ℕ) → Place None forest q j cs rs → (q ≡ parent) × (cs ≡ children) × (rs ≡ rest)
   -- what stands below it is `children_of`
   pub children_are : children ≡ children_of depths j
   -- "A row's parent is the last earlier row one depth less."
@@ -44,4 +43,4 @@ pub record PastAtDepth (depths : List ℕ) (d k s : ℕ) : Type 0 where
 
 -- a row has a next sibling exactly where the first row past it and all below it stands at its depth, and that row is it
 abbrev pub SiblingPast : List ℕ → ℕ → Type 0
-SiblingPast depths j = (s : ℕ) → (next_sibling_of depths j ≡ some s) ↔ PastAtDepth depths (get_or depths j 0) (suc j) s
+SiblingPast depths j = (s : ℕ) → (next_sibling_of depths j ≡ Some s) ↔ PastAtDepth depths (get_or depths j 0) (suc j) s

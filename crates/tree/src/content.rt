@@ -6,18 +6,10 @@ ghost use Rattle.tree.specs.Page.{node_at, widest_pool};
 ghost use Rattle.tree.specs.TextContent.{text_data};
 ghost use Rattle.tree.specs.TextLength.{length_numbers, length_of, numbers, squeezed_on, text_length};
 
-use crate::questions::{Asked, ask};
+use crate::questions::{QuestionError, ask};
 use sheet::line::Layout;
 use sheet::read::{depth_at, part, row_at};
-use sheet::verdict::Verdict;
 use text::{Squeezed, collapsed_from, collapsed_len};
-
-#[derive(Clone, Copy)]
-pub enum LengthAnswer {
-    Length(usize),
-    NoRow(usize),
-    Refused(Verdict),
-}
 
 // A collapsed text with the data of row j more.
 fn add_row(s: &[u8], l: Layout, j: usize, p: Squeezed) -> Squeezed
@@ -40,19 +32,16 @@ fn length_below(s: &[u8], l: Layout, i: usize) -> usize
     requires { Accepted s.now l × (i < l.nodes) × ((row_at s.now l i).kind ≡ 1) }
     ensures { result ≡ text_length (node_at s.now l) (depths s.now l) i }
 {
-    let nodes = l.nodes;
     let d = depth_at(s, l, i);
     let mut p = Squeezed {
         len: 0,
         space: false,
     };
-    let mut j = i + 1;
-    while j < nodes {
+    for j in i + 1..l.nodes {
         if depth_at(s, l, j) <= d {
             return p.len;
         }
         p = add_row(s, l, j, p);
-        j += 1;
     }
     p.len
 }
@@ -68,12 +57,9 @@ pub fn text_length(s: &[u8], l: Layout, i: usize) -> usize
     collapsed_len(part(s, l, r.value_at, r.value_len))
 }
 
-pub fn text_length_of(s: &[u8], row: usize) -> LengthAnswer
+pub fn text_length_of(s: &[u8], row: usize) -> Result<usize, QuestionError>
     ensures { (result ≡ length_of s.now row) × (numbers result ≡ length_numbers s.now row) }
 {
-    match ask(s, row) {
-        Asked::Of(l, r) => LengthAnswer::Length(text_length(s, l, row)),
-        Asked::NoRow(i) => LengthAnswer::NoRow(i),
-        Asked::Refused(v) => LengthAnswer::Refused(v),
-    }
+    let (l, _) = ask(s, row)?;
+    Ok(text_length(s, l, row))
 }

@@ -37,9 +37,6 @@ free_octets w h e =
 
 -- ---- a run that grows
 
-pub free_start : {s : Bytes} {from : ℕ} → from ≤ length s → FreeOf s from from
-free_start h = record { ordered = omega arith; within = h; none_between = λ k a b. absurd (omega arith) }
-
 module _ {s : Bytes} {from to : ℕ} (f : FreeOf s from to) where
   -- by n bytes of which none is an ampersand
   free_then : (n : ℕ) → to + n ≤ length s → ((k : ℕ) → to ≤ k → k < to + n → get_or s k 0 ≡ ampersand → ⊥) → FreeOf s from (to + n)
@@ -49,12 +46,6 @@ module _ {s : Bytes} {from to : ℕ} (f : FreeOf s from to) where
         within = h;
         none_between = λ k a b. by_test (ltb k to) (λ t. f.none_between k a (ltb-true k to t)) (λ t. g k (ltb-false k to t) b);
       }
-
-  pub free_byte_more : to < length s → (get_or s to 0 ≡ ampersand → ⊥) → FreeOf s from (to + 1)
-  free_byte_more h n = free_then 1 (omega arith) (λ k a b e. n (ap (λ (i : ℕ). get_or s i 0) (the_only k a b) ∙ e))
-    where
-      the_only : (k : ℕ) → to ≤ k → k < to + 1 → to ≡ k
-      the_only k a b = omega arith
 
   pub free_word_more : to + 8 ≤ length s → Each (λ c. c ≡ ampersand → ⊥) (take 8 (drop to s)) → FreeOf s from (to + 8)
   free_word_more h e = free_then 8 h at

@@ -1,8 +1,8 @@
 -- `unescape` undoes `escape`, and is undone by it where no quote and no angle bracket is bare.
+use Rattle.std.proofs.lemmas.Option.{none-some}
 use mathlib.Core.Path.{◌≡◌, refl, sym, ap, ◌∙◌, subst}
 use mathlib.Core.Bool.{true, false, ◌||◌}
 use mathlib.Core.List.{[], ◌∷◌, ◌++◌}
-use mathlib.Core.Option.{Option, none, some, some-ne-none}
 use Prim.Native.Nat.{ℕ, zero, suc, ◌+◌, ◌≤◌, ◌<◌}
 use native.Mathlib.Omega.{arith}
 use lib.Dec.{eqb}
@@ -18,7 +18,7 @@ use Rattle.unescape.specs.Answers.{unescaped_in, unescaped_out}
 use Rattle.unescape.specs.Theorems.{is_bare, holds_bare}
 use Rattle.unescape.specs.Unescape.{ampersand, Reading, text, no_entity, entity}
 use Rattle.unescape.specs.Unescape.{no_entity_from, unescaped_from, unescaped, reading_by, unescape}
-use Rattle.unescape.specs.declared.Unescaped.TheVariants.{Text}
+use Rattle.std.specs.Prelude.{Ok, Option, None, Some}
 use Rattle.unescape.proofs.StartsLaws.{entity_split}
 use Rattle.unescape.proofs.UnescapeLaws.{unescaped_other, none_other, unescaped_escaped, none_escaped, unescaped_none, none_none}
 
@@ -29,7 +29,7 @@ unfolding escape unescaped_from
 unescaped_escape [] = refl
 unescaped_escape (c ∷ t) = unescaped_escaped c (escape t) ∙ ap (λ (r : Bytes). c ∷ r) (unescaped_escape t)
 
-none_escape : (t : Bytes) (at : ℕ) → no_entity_from at (escape t) ≡ none
+none_escape : (t : Bytes) (at : ℕ) → no_entity_from at (escape t) ≡ None
 unfolding escape no_entity_from
 none_escape [] at = refl
 none_escape (c ∷ t) at = none_escaped c at (escape t) ∙ none_escape t (at + length (escaped c))
@@ -39,18 +39,18 @@ unfolding unescape
 undoes t = rw (none_escape t 0, unescaped_escape t)
 
 pub undoes_called : (t out : Bytes) → length t ≤ length out
-    → (unescaped_in (escape t) (length out) ≡ Text (length t)) × (unescaped_out (escape t) out ≡ padded t (length out))
+    → (unescaped_in (escape t) (length out) ≡ Ok (length t)) × (unescaped_out (escape t) out ≡ padded t (length out))
 undoes_called t out h = rw (undoes t, le-ltb (length out) (length t) h) (refl, refl)
 
 -- ---- every text from left to right: a name, another byte, or an ampersand that starts no name
 
 module _ (P : Bytes → Type 0) (end : P []) (name : (c : ℕ) (s : Bytes) → 1 < length (escaped c) → P s → P (escaped c ++ s))
     (other : (c : ℕ) (s : Bytes) → (c ≡ ampersand → ⊥) → P s → P (c ∷ s))
-    (no_name : (s : Bytes) → entity (ampersand ∷ s) ≡ none → P s → P (ampersand ∷ s)) where
+    (no_name : (s : Bytes) → entity (ampersand ∷ s) ≡ None → P s → P (ampersand ∷ s)) where
   -- an ampersand, where it holds of all shorter texts
   by_entity : (s : Bytes) → ((t : Bytes) → length t ≤ length s → P t) → (o : Option ℕ) → entity (ampersand ∷ s) ≡ o → P (ampersand ∷ s)
-  by_entity s shorter none e = no_name s e (shorter s (omega arith))
-  by_entity s shorter (some c) e =
+  by_entity s shorter None e = no_name s e (shorter s (omega arith))
+  by_entity s shorter (Some c) e =
       let p = entity_split (ampersand ∷ s) c e in
       let rest = drop (length (escaped c)) (ampersand ∷ s) in
       subst P (sym p.0) (name c rest p.1 (shorter rest (omega (arith, length-drop (length (escaped c)) (ampersand ∷ s), p.1))))
@@ -123,14 +123,14 @@ exactly_other c s n p =
     ))
     (λ t. rw (t, plain_escaped c n t) ((λ b. ap (λ (r : Bytes). c ∷ r) (p.0 b)), (λ e. p.1 (ap (drop 1) e)))))
 
-exactly : (s : Bytes) → (at : ℕ) → no_entity_from at s ≡ none → Exactly s
+exactly : (s : Bytes) → (at : ℕ) → no_entity_from at s ≡ None → Exactly s
 unfolding escape unescaped_from no_entity_from holds_bare
 exactly =
-    by_parts (λ s. (at : ℕ) → no_entity_from at s ≡ none → Exactly s)
+    by_parts (λ s. (at : ℕ) → no_entity_from at s ≡ None → Exactly s)
     (λ at e. ((λ b. refl), (λ t. refl)))
     (λ c s h p at e. exactly_name c s h (p (at + length (escaped c)) (sym (none_escaped c at s) ∙ e)))
     (λ c s n p at e. exactly_other c s n (p (suc at) (sym (none_other c n s at) ∙ e)))
-    (λ s n p at e. absurd (some-ne-none at (sym (none_none s n at) ∙ e)))
+    (λ s n p at e. absurd (none-some at (sym (sym (none_none s n at) ∙ e))))
 
 -- tells the readings apart
 abbrev bytes : Reading → Bytes
@@ -138,17 +138,17 @@ bytes (text t) = t
 bytes (no_entity at) = []
 
 abbrev offset : Reading → Option ℕ
-offset (text t) = none
-offset (no_entity at) = some at
+offset (text t) = None
+offset (no_entity at) = Some at
 
 -- a reading by its two parts
-text_is : (o : Option ℕ) (u t : Bytes) → reading_by o u ≡ text t → (o ≡ none) × (u ≡ t)
-text_is none u t e = (refl, ap bytes e)
-text_is (some at) u t e = absurd (some-ne-none at (ap offset e))
+text_is : (o : Option ℕ) (u t : Bytes) → reading_by o u ≡ text t → (o ≡ None) × (u ≡ t)
+text_is None u t e = (refl, ap bytes e)
+text_is (Some at) u t e = absurd (none-some at (sym (ap offset e)))
 
-pub offset_is : (o : Option ℕ) (u : Bytes) (i : ℕ) → reading_by o u ≡ no_entity i → o ≡ some i
-offset_is none u i e = ap offset e
-offset_is (some at) u i e = ap offset e
+pub offset_is : (o : Option ℕ) (u : Bytes) (i : ℕ) → reading_by o u ≡ no_entity i → o ≡ Some i
+offset_is None u i e = ap offset e
+offset_is (Some at) u i e = ap offset e
 
 pub redoes : (s t : Bytes) → unescape s ≡ text t → (holds_bare s ≡ false → escape t ≡ s) × (escape t ≡ s → holds_bare s ≡ false)
 unfolding unescape

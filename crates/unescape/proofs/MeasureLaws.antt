@@ -1,7 +1,5 @@
 -- The measuring pass, from one ampersand to the next.
 use mathlib.Core.Path.{◌≡◌, sym, ap, ◌∙◌}
-use mathlib.Core.List.{[]}
-use mathlib.Core.Option.{none}
 use Prim.Native.Nat.{ℕ, ◌+◌, ◌-◌, ◌≤◌, ◌<◌}
 use native.Mathlib.Omega.{arith}
 use lib.ListN.{length, get_or, take, drop, length-append, drop_of_length-le}
@@ -9,7 +7,8 @@ use Rattle.common.specs.Bytes.{Bytes}
 use Rattle.unescape.specs.Inner.{NextAmpersand, part_of, measure}
 use Rattle.unescape.specs.Unescape.{ampersand, entity, no_entity_from, unescaped_from, unescaped, unescape}
 use Rattle.unescape.specs.declared.Part.{Part}
-use Rattle.unescape.specs.declared.Unescaped.TheVariants.{Text, NoEntity}
+use Rattle.std.specs.Prelude.{Ok, Err, None}
+use Rattle.unescape.specs.declared.UnescapeError.TheVariants.{NoEntity}
 use Rattle.unescape.proofs.FreeLaws.{run_length}
 use Rattle.unescape.proofs.PartLaws.{next_text, next_none, Stands, stands}
 
@@ -59,14 +58,14 @@ module _ {s : Bytes} {i n : ℕ} (m : Measuring s i n) where
       }
 
   -- one that starts none
-  pub measuring_wrong : {p : Part} → Stands s i p → p.len ≡ 1 → NoEntity i ≡ measure (unescape s)
+  pub measuring_wrong : {p : Part} → Stands s i p → p.len ≡ 1 → Err (NoEntity i) ≡ measure (unescape s)
   unfolding unescape
   measuring_wrong t e = rw (sym m.names ∙ t.no_name e)
 
-  pub measuring_end : length s ≤ i → Text n ≡ measure (unescape s)
+  pub measuring_end : length s ≤ i → Ok n ≡ measure (unescape s)
   unfolding unescape unescaped_from no_entity_from
   measuring_end h =
       let past = drop_of_length-le s {i = i} h in
-      let none_is : no_entity_from 0 s ≡ none = sym m.names ∙ ap (no_entity_from i) past in
+      let none_is : no_entity_from 0 s ≡ None = sym m.names ∙ ap (no_entity_from i) past in
       let count_is : n ≡ length (unescaped s) = omega (arith, h, m.within, m.count, ap (λ (t : Bytes). length (unescaped t)) past) in
       rw (none_is, count_is)

@@ -1,7 +1,7 @@
 -- From one ampersand of a text to the next: what stands there, and the run behind it.
+use Rattle.std.specs.Prelude.{Option, None, Some}
 use mathlib.Core.Path.{◌≡◌, refl, sym, ap, ◌∙◌}
-use mathlib.Core.List.{[], ◌∷◌, ◌++◌}
-use mathlib.Core.Option.{Option, none, some}
+use mathlib.Core.List.{◌∷◌, ◌++◌}
 use Prim.Native.Nat.{ℕ, ◌+◌, ◌-◌, ◌≤◌, ◌<◌}
 use native.Mathlib.Omega.{arith}
 use native.Mathlib.Numerals.{add-one}
@@ -35,13 +35,13 @@ pub record Stands (s : Bytes) (i : ℕ) (p : Part) : Type 0 where
   pub not_empty : 0 < p.len
   pub characters : unescaped (drop i s) ≡ p.character ∷ unescaped (drop (i + p.len) s)
   pub a_name : (p.len ≡ 1 → ⊥) → no_entity_from i (drop i s) ≡ no_entity_from (i + p.len) (drop (i + p.len) s)
-  pub no_name : p.len ≡ 1 → no_entity_from i (drop i s) ≡ some i
+  pub no_name : p.len ≡ 1 → no_entity_from i (drop i s) ≡ Some i
 
 module _ (s : Bytes) (i : ℕ) (h : i < length s) (a : get_or s i 0 ≡ ampersand) where
   first : drop i s ≡ ampersand ∷ drop (i + 1) s
   first = drop-cons s i 0 h ∙ rw (a, add-one)
 
-  stands_none : entity (drop i s) ≡ none → Stands s i (record { character = ampersand; len = 1 })
+  stands_none : entity (drop i s) ≡ None → Stands s i (record { character = ampersand; len = 1 })
   stands_none e =
       let n = sym (ap entity first) ∙ e in
       record {
@@ -52,7 +52,7 @@ module _ (s : Bytes) (i : ℕ) (h : i < length s) (a : get_or s i 0 ≡ ampersan
         no_name = λ q. ap (no_entity_from i) first ∙ none_none (drop (i + 1) s) n i;
       }
 
-  stands_some : (c : ℕ) → entity (drop i s) ≡ some c → Stands s i (record { character = c; len = length (escaped c) })
+  stands_some : (c : ℕ) → entity (drop i s) ≡ Some c → Stands s i (record { character = c; len = length (escaped c) })
   stands_some c e =
       let p = entity_split (drop i s) c e in
       let split : drop i s ≡ escaped c ++ drop (i + length (escaped c)) s =
@@ -66,8 +66,8 @@ module _ (s : Bytes) (i : ℕ) (h : i < length s) (a : get_or s i 0 ≡ ampersan
       }
 
   stands_by : (o : Option ℕ) → entity (drop i s) ≡ o → Stands s i (part_of o)
-  stands_by none e = stands_none e
-  stands_by (some c) e = stands_some c e
+  stands_by None e = stands_none e
+  stands_by (Some c) e = stands_some c e
 
   pub stands : {p : Part} → p ≡ part_of (entity (drop i s)) → Stands s i p
   stands e = rw e (stands_by (entity (drop i s)) refl)

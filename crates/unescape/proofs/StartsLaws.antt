@@ -1,39 +1,36 @@
 -- A word at the start of a text, and the names that may stand there.
+use Rattle.std.proofs.lemmas.Option.{none-some, same_Some}
+use Rattle.std.specs.Prelude.{Some}
 use mathlib.Core.Path.{◌≡◌, refl, sym, ap, ◌∙◌}
 use mathlib.Core.Bool.{Bool, true, false}
 use mathlib.Core.List.{List, [], ◌∷◌, ◌++◌}
-use mathlib.Core.Option.{some, some-injective, none-ne-some}
-use Prim.Native.Nat.{ℕ, ◌≤◌, ◌<◌}
+use Prim.Native.Nat.{ℕ, ◌-◌, ◌<◌}
 use native.Mathlib.Omega.{arith}
 use lib.Dec.{eqb}
 use lib.ListN.{length, take, drop}
-use borrow.Author.Tests.{eqb-true}
-use Rattle.common.specs.Bytes.{Bytes, codes, same}
+use lib.Pointwise.{pointwise}
+use borrow.Author.Tests.{eq-eqb, ne_eqb, eqb-true, eqb-false}
+use Rattle.common.specs.Bytes.{Bytes, codes}
 use Rattle.common.specs.Lanes.{Each}
 use Rattle.common.proofs.Choice.{by_test, absurd_test}
+use Rattle.common.proofs.Parts.{part_from}
 use Rattle.text.specs.Text.{escaped}
 use Rattle.unescape.specs.Inner.{part_of}
 use Rattle.unescape.specs.Unescape.{ampersand, named, starts_with, entity_among, entity}
 
--- a byte of the text and a byte of the word, then the rest
-abbrev both : Bool → Bool → Bool
-both b rest = elim b [ true ↦ rest | false ↦ false ]
-
-pub starts_same : (word s : Bytes) → length word ≤ length s → starts_with word s ≡ same (take (length word) s) word
-unfolding starts_with same
-starts_same [] s h = refl
-starts_same (c ∷ word) [] h = absurd (omega arith)
-starts_same (c ∷ word) (d ∷ s) h = ap (both (eqb d c)) (starts_same word s (omega arith))
-
-pub starts_short : (word s : Bytes) → length s < length word → starts_with word s ≡ false
+-- as the library's `starts_with` answers it of the part from `at` on
+starts_pairs : (word s : Bytes) → pointwise eqb word (take (length word) s) ≡ starts_with word s
 unfolding starts_with
-starts_short [] s h = absurd (omega arith)
-starts_short (c ∷ word) [] h = refl
-starts_short (c ∷ word) (d ∷ s) h = ap (both (eqb d c)) (starts_short word s (omega arith)) ∙ neither (eqb d c)
-  where
-    neither : (b : Bool) → both b false ≡ false
-    neither true = refl
-    neither false = refl
+starts_pairs [] s = refl
+starts_pairs (c ∷ word) [] = refl
+starts_pairs (c ∷ word) (d ∷ s) =
+    by_test (eqb d c)
+    (λ e. rw (eq-eqb c d (sym (eqb-true d c e)), e, starts_with) (starts_pairs word s))
+    (λ e. rw (ne_eqb c d (λ q. eqb-false d c e (sym q)), e, starts_with))
+
+pub starts_from : (s : Bytes) (at : ℕ) (word : Bytes)
+    → pointwise eqb word (take (length word) (take (length s - at) (drop at s))) ≡ starts_with word (drop at s)
+starts_from s at word = rw (part_from s at) (starts_pairs word (drop at s))
 
 pub starts_split : (word s : Bytes) → starts_with word s ≡ true → s ≡ word ++ drop (length word) s
 unfolding starts_with
@@ -47,20 +44,20 @@ starts_split (c ∷ word) (d ∷ s) e =
 -- ---- the names
 
 -- the text starts with the name that is found, and what holds of each character that is looked for holds of the one that is found
-pub among_starts : (Q : ℕ → Type 0) (characters : List ℕ) → Each Q characters → (s : Bytes) (c : ℕ) → entity_among characters s ≡ some c
+pub among_starts : (Q : ℕ → Type 0) (characters : List ℕ) → Each Q characters → (s : Bytes) (c : ℕ) → entity_among characters s ≡ Some c
     → (starts_with (escaped c) s ≡ true) × Q c
 unfolding entity_among
-among_starts Q [] q s c e = absurd (none-ne-some c e)
+among_starts Q [] q s c e = absurd (none-some c e)
 among_starts Q (d ∷ characters) q s c e =
     by_test (starts_with (escaped d) s)
-    (λ t. let i = some-injective d c (rw (t, entity_among) at e) in (rw (← i) t, rw (← i) q.0))
+    (λ t. let i = same_Some d c (rw (t, entity_among) at e) in (rw (← i) t, rw (← i) q.0))
     (λ t. among_starts Q characters q.1 s c (rw (t, entity_among) at e))
 
 named_long : Each (λ c. 1 < length (escaped c)) named
 unfolding escaped codes
 named_long = (omega arith, (omega arith, (omega arith, (omega arith, tt))))
 
-pub entity_split : (s : Bytes) (c : ℕ) → entity s ≡ some c → (s ≡ escaped c ++ drop (length (escaped c)) s) × (1 < length (escaped c))
+pub entity_split : (s : Bytes) (c : ℕ) → entity s ≡ Some c → (s ≡ escaped c ++ drop (length (escaped c)) s) × (1 < length (escaped c))
 entity_split s c e = let p = among_starts (λ c. 1 < length (escaped c)) named named_long s c e in (starts_split (escaped c) s p.0, p.1)
 
 -- the names one after the other, as the code asks for them

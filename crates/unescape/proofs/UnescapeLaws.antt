@@ -1,8 +1,8 @@
 -- Reading back goes part by part: an ampersand's name, and every other byte by itself.
+use Rattle.std.specs.Prelude.{None, Some}
 use mathlib.Core.Path.{◌≡◌, refl, ap, ◌∙◌}
 use mathlib.Core.Bool.{false}
 use mathlib.Core.List.{[], ◌∷◌, ◌++◌}
-use mathlib.Core.Option.{none, some}
 use Prim.Native.Nat.{ℕ, suc, ◌+◌, ◌<◌}
 use native.Mathlib.Nat.{add-zero, add-suc, suc-add}
 use native.Mathlib.Omega.{arith}
@@ -19,7 +19,7 @@ module _ (c : ℕ) (n : c ≡ ampersand → ⊥) (s : Bytes) where
   starts_other word = rw (ne_eqb c ampersand n, starts_with)
 
   -- a byte that is no ampersand starts no name
-  entity_other : entity (c ∷ s) ≡ none
+  entity_other : entity (c ∷ s) ≡ None
   unfolding entity_among escaped codes
   entity_other =
       rw (starts_other (codes "amp;"), starts_other (codes "quot;"), starts_other (codes "lt;"), starts_other (codes "gt;"), entity_among)
@@ -68,11 +68,11 @@ none_run (c ∷ r) s at f = none_other c (f 0 (omega arith)) (r ++ s) at ∙ non
 
 -- ---- an ampersand that starts no name
 
-module _ (s : Bytes) (n : entity (ampersand ∷ s) ≡ none) where
+module _ (s : Bytes) (n : entity (ampersand ∷ s) ≡ None) where
   pub unescaped_none : unescaped (ampersand ∷ s) ≡ ampersand ∷ unescaped s
   unfolding unescaped_from
   unescaped_none = rw (n, unescaped_from)
 
-  pub none_none : (at : ℕ) → no_entity_from at (ampersand ∷ s) ≡ some at
+  pub none_none : (at : ℕ) → no_entity_from at (ampersand ∷ s) ≡ Some at
   unfolding no_entity_from
   none_none at = rw (n, no_entity_from)

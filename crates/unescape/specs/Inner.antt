@@ -1,12 +1,11 @@
 -- What the inner functions promise.
-use Rattle.std.specs.Prelude.{◌≡◌, ℕ, ◌≤◌, ◌<◌, length, get_or}
-use Rattle.std.proofs.Math.Option.{Option, none, some}
+use Rattle.std.specs.Prelude.{◌≡◌, ℕ, ◌≤◌, ◌<◌, length, get_or, Result, Ok, Err, Option, None, Some}
 use Rattle.common.specs.Bytes.{Bytes}
 use Rattle.text.specs.Text.{escaped}
 use Rattle.unescape.specs.Unescape.{ampersand, Reading, text, no_entity}
 use Rattle.unescape.specs.declared.Part.{Part}
-use Rattle.unescape.specs.declared.Unescaped.{Unescaped}
-use Rattle.unescape.specs.declared.Unescaped.TheVariants.{Text, NoEntity}
+use Rattle.unescape.specs.declared.UnescapeError.{UnescapeError}
+use Rattle.unescape.specs.declared.UnescapeError.TheVariants.{NoEntity}
 
 -- no ampersand stands from `from` on before `to`
 pub record FreeOf (s : Bytes) (from to : ℕ) : Type 0 where
@@ -21,10 +20,10 @@ pub record NextAmpersand (s : Bytes) (from to : ℕ) : Type 0 where
 
 -- what an ampersand starts
 abbrev pub part_of : Option ℕ → Part
-part_of none = record { character = ampersand; len = 1 }
-part_of (some c) = record { character = c; len = length (escaped c) }
+part_of None = record { character = ampersand; len = 1 }
+part_of (Some c) = record { character = c; len = length (escaped c) }
 
 -- the answer where there is room for every text
-abbrev pub measure : Reading → Unescaped
-measure (text t) = Text (length t)
-measure (no_entity at) = NoEntity at
+abbrev pub measure : Reading → Result ℕ UnescapeError
+measure (text t) = Ok (length t)
+measure (no_entity at) = Err (NoEntity at)

@@ -1,11 +1,9 @@
 -- What is to be shown of `unescape` (document 02, request 5).
-use Rattle.std.specs.Prelude.{◌≡◌, Bool, false, ◌||◌, [], ◌∷◌, ◌++◌, ℕ, ◌≤◌, ◌<◌, eqb, length, get_or, drop}
-use Rattle.std.proofs.Math.Option.{none}
+use Rattle.std.specs.Prelude.{◌≡◌, Bool, false, ◌||◌, [], ◌∷◌, ◌++◌, ℕ, ◌≤◌, ◌<◌, eqb, length, get_or, drop, Ok, None}
 use Rattle.common.specs.Bytes.{Bytes, padded}
 use Rattle.text.specs.Text.{escape, escaped}
 use Rattle.unescape.specs.Answers.{unescaped_in, unescaped_out}
 use Rattle.unescape.specs.Unescape.{ampersand, entity, unescaped, text, no_entity, unescape}
-use Rattle.unescape.specs.declared.Unescaped.TheVariants.{Text}
 
 -- a quote or an angle bracket
 abbrev pub is_bare : ℕ → Bool
@@ -21,7 +19,7 @@ pub record Undoes : Type 0 where
   pub back : (t : Bytes) → unescape (escape t) ≡ text t
   -- the same of the call, with room for the bytes
   pub called : (t out : Bytes) → length t ≤ length out
-      → (unescaped_in (escape t) (length out) ≡ Text (length t)) × (unescaped_out (escape t) out ≡ padded t (length out))
+      → (unescaped_in (escape t) (length out) ≡ Ok (length t)) × (unescaped_out (escape t) out ≡ padded t (length out))
 
 -- "Escaping after undoing gives them back exactly when the accepted text held no bare quote or angle bracket."
 pub record Redoes : Type 0 where
@@ -40,8 +38,8 @@ pub record Parts : Type 0 where
 pub record FirstNoEntity (s : Bytes) (i : ℕ) : Type 0 where
   pub there : i < length s
   pub is_ampersand : get_or s i 0 ≡ ampersand
-  pub starts_none : entity (drop i s) ≡ none
-  pub earlier : (k : ℕ) → k < i → get_or s k 0 ≡ ampersand → entity (drop k s) ≡ none → ⊥
+  pub starts_none : entity (drop i s) ≡ None
+  pub earlier : (k : ℕ) → k < i → get_or s k 0 ≡ ampersand → entity (drop k s) ≡ None → ⊥
 
 -- a text is refused for that ampersand, and for nothing else
 pub record Refuses : Type 0 where

@@ -1,7 +1,6 @@
 -- The inverse of `escape` (document 02, request 5): "the four names become their characters, all else is copied". The names are those of
 -- `escaped`, the table of `escape` (text/specs/Text).
-use Rattle.std.specs.Prelude.{Bool, true, false, List, [], ◌∷◌, ℕ, zero, suc, ◌-◌, eqb, length}
-use Rattle.std.proofs.Math.Option.{Option, none, some}
+use Rattle.std.specs.Prelude.{Bool, true, false, List, [], ◌∷◌, ℕ, zero, suc, ◌-◌, eqb, length, Option, None, Some}
 use Rattle.common.specs.Bytes.{Bytes}
 use Rattle.text.specs.Text.{escaped}
 
@@ -21,8 +20,8 @@ starts_with (c ∷ word) (d ∷ s) = elim (eqb d c) [ true ↦ starts_with word 
 -- the character whose name a text starts with, among some characters
 unfoldable pub entity_among : List ℕ → Bytes → Option ℕ
 unfolding starts_with
-entity_among [] s = none
-entity_among (c ∷ characters) s = elim (starts_with (escaped c) s) [ true ↦ some c | false ↦ entity_among characters s ]
+entity_among [] s = None
+entity_among (c ∷ characters) s = elim (starts_with (escaped c) s) [ true ↦ Some c | false ↦ entity_among characters s ]
 
 -- among the four
 abbrev pub entity : Bytes → Option ℕ
@@ -31,10 +30,10 @@ entity s = entity_among named s
 -- "the first ampersand that starts none of the four names": where it stands, of a text that starts at `at`
 unfoldable pub no_entity_from : ℕ → Bytes → Option ℕ
 unfolding entity_among
-no_entity_from at [] = none
+no_entity_from at [] = None
 no_entity_from at (c ∷ s) =
     elim (eqb c ampersand) [
-      | true ↦ elim (entity (c ∷ s)) [ none ↦ some at | some d ↦ no_entity_from (suc at) s ]
+      | true ↦ elim (entity (c ∷ s)) [ None ↦ Some at | Some d ↦ no_entity_from (suc at) s ]
       | false ↦ no_entity_from (suc at) s
     ]
 
@@ -44,7 +43,7 @@ unfolding entity_among
 unescaped_from rest [] = []
 unescaped_from (suc rest) (c ∷ s) = unescaped_from rest s
 unescaped_from zero (c ∷ s) =
-    elim (entity (c ∷ s)) [ none ↦ c ∷ unescaped_from 0 s | some d ↦ d ∷ unescaped_from (length (escaped d) - 1) s ]
+    elim (entity (c ∷ s)) [ None ↦ c ∷ unescaped_from 0 s | Some d ↦ d ∷ unescaped_from (length (escaped d) - 1) s ]
 
 -- the four names as their characters, all else as it is
 abbrev pub unescaped : Bytes → Bytes
@@ -56,8 +55,8 @@ pub data Reading : Type 0 where
   no_entity : ℕ → Reading
 
 abbrev pub reading_by : Option ℕ → Bytes → Reading
-reading_by none s = text s
-reading_by (some at) s = no_entity at
+reading_by None s = text s
+reading_by (Some at) s = no_entity at
 
 -- the inverse of `escape`
 unfoldable pub unescape : Bytes → Reading

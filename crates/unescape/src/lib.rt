@@ -9,17 +9,17 @@ ghost use Rattle.common.specs.Puts.{Puts};
 ghost use Rattle.common.specs.Word.{octets};
 ghost use Rattle.unescape.specs.Answers.{unescaped_in, unescaped_out};
 ghost use Rattle.unescape.specs.Inner.{FreeOf, NextAmpersand, measure, part_of};
-ghost use Rattle.unescape.specs.Unescape.{ampersand, entity, starts_with, unescape, unescaped};
+ghost use Rattle.unescape.specs.Unescape.{ampersand, entity, unescape, unescaped};
 
-// So many bytes are written; or the ampersand at this offset starts none of the names; or the output is shorter than the need.
-#[derive(Clone, Copy)]
-pub enum Unescaped {
-    Text(usize),
+// The ampersand at this offset starts none of the names; or the output is shorter than the need.
+#[derive(Clone, Copy, Debug, PartialEq, Eq)]
+pub enum UnescapeError {
     NoEntity(usize),
     TooShort(usize),
 }
 
-// What an ampersand starts: a character and its name's length, or the ampersand itself with length 1.
+// What an ampersand starts: a character and its name's length, or the ampersand itself with length 1, since it is stored and passed over
+// as a name is.
 #[derive(Clone, Copy)]
 struct Part {
     character: u8,
@@ -55,25 +55,12 @@ fn next_ampersand(s: &[u8], from: usize) -> usize
     requires { from ≤ length s.now }
     ensures { NextAmpersand s.now from result }
 {
-    let mut i = free_words(s, from);
-    while i < s.len() {
+    for i in free_words(s, from)..s.len() {
         if s[i] == b'&' {
             return i;
         }
-        i += 1;
     }
-    i
-}
-
-// Whether a word stands at `at`.
-fn starts_with(s: &[u8], at: usize, word: &[u8]) -> bool
-    requires { at ≤ length s.now }
-    ensures { result ≡ starts_with word.now (drop at s.now) }
-{
-    if s.len() - at < word.len() {
-        return false;
-    }
-    common::same(&s[at..at + word.len()], word)
+    s.len()
 }
 
 // What the ampersand at `at` starts.
@@ -81,25 +68,26 @@ fn part_at(s: &[u8], at: usize) -> Part
     requires { at ≤ length s.now }
     ensures { result ≡ part_of (entity (drop at s.now)) }
 {
-    if starts_with(s, at, b"&amp;") {
+    let text = &s[at..];
+    if text.starts_with(b"&amp;") {
         return Part {
             character: b'&',
             len: 5,
         };
     }
-    if starts_with(s, at, b"&quot;") {
+    if text.starts_with(b"&quot;") {
         return Part {
             character: b'"',
             len: 6,
         };
     }
-    if starts_with(s, at, b"&lt;") {
+    if text.starts_with(b"&lt;") {
         return Part {
             character: b'<',
             len: 4,
         };
     }
-    if starts_with(s, at, b"&gt;") {
+    if text.starts_with(b"&gt;") {
         return Part {
             character: b'>',
             len: 4,
@@ -112,7 +100,7 @@ fn part_at(s: &[u8], at: usize) -> Part
 }
 
 // How many bytes the characters of a text have, or where an ampersand starts none of the names.
-fn measure(s: &[u8]) -> Unescaped
+fn measure(s: &[u8]) -> Result<usize, UnescapeError>
     ensures { result ≡ measure (unescape s.now) }
 {
     let mut n = s.len();
@@ -120,12 +108,12 @@ fn measure(s: &[u8]) -> Unescaped
     while i < s.len() {
         let p = part_at(s, i);
         if p.len == 1 {
-            return Unescaped::NoEntity(i);
+            return Err(UnescapeError::NoEntity(i));
         }
         n -= p.len - 1;
         i = next_ampersand(s, i + p.len);
     }
-    Unescaped::Text(n)
+    Ok(n)
 }
 
 // The characters from the start of `out` on; the place past them.
@@ -145,19 +133,16 @@ fn put_unescaped(out: &mut [u8], s: &[u8]) -> usize
     at
 }
 
-// The characters of an escaped text, and zeros behind them.
-pub fn unescape(s: &[u8], out: &mut [u8]) -> Unescaped
+// The characters of an escaped text, and zeros behind them; how many they are.
+pub fn unescape(s: &[u8], out: &mut [u8]) -> Result<usize, UnescapeError>
     ensures answer { result ≡ unescaped_in s.now (length out.old) }
     ensures buffer { out.new ≡ unescaped_out s.now out.old }
 {
-    let r = measure(s);
-    let Unescaped::Text(need) = r else {
-        return r;
-    };
+    let need = measure(s)?;
     if out.len() < need {
-        return Unescaped::TooShort(need);
+        return Err(UnescapeError::TooShort(need));
     }
     let n = put_unescaped(out, s);
     common::clear(out, n);
-    Unescaped::Text(n)
+    Ok(n)
 }

@@ -7,7 +7,7 @@ use native.Mathlib.Omega.{arith}
 use lib.Dec.{leb}
 use lib.ListN.{length, drop, get_or, length-drop, length-replicate, replicate, drop_of_length-le}
 use lib.Seq.{drop-cons}
-use borrow.Author.Tests.{le-leb, lt-leb, leb-true}
+use borrow.Author.Tests.{leb-true}
 use Rattle.common.specs.Bytes.{Bytes}
 use Rattle.common.proofs.Every.{every_at}
 use Rattle.utf8.specs.Abnf.{Range, %x◌-◌, UTF8_tail, UTF8_char}
@@ -76,37 +76,26 @@ module _ (s : Bytes) where
     tail_in : within (%x low - high) (get_or s k 0) ≡ true → expect (expected_ranges (n - 1) 0x80 0xBF) (drop q s) ≡ expect (expected_ranges n low high) (drop k s)
     tail_in w = sym (rw (expected_some n low high some) (tail_step k q _ _ e h ∙ rw w))
 
-  none_at : (i : ℕ) → i < length s → valid (drop i s) ≡ false → Passed s i i
-  none_at i h e = record { from = omega arith; to = omega arith; none = λ q. e; some = λ l. absurd (omega arith) }
-
   some_at : (i j : ℕ) → i < j → j ≤ length s → valid (drop j s) ≡ valid (drop i s) → Passed s i j
-  some_at i j h k e = record { from = omega arith; to = k; none = λ q. absurd (omega arith); some = λ l. e }
+  some_at i j h k e = record { from = h; to = k; same = e }
 
   module _ (i n low high : ℕ) (inside : i < length s) (begun : expected_ranges n low high ≡ follow UTF8_char (get_or s i 0)) where
     after_first : expect (expected_ranges n low high) (drop (i + 1) s) ≡ valid (drop i s)
     after_first = ap (λ (rs : List Range). expect rs (drop (i + 1) s)) begun ∙ sym (first_step i (i + 1) (omega arith) (omega arith))
 
-    pub pass_cut : length s - i ≤ n → Passed s i i
-    pass_cut h = none_at i inside (sym after_first ∙ expect_cut _ _ (omega (arith, expected_length n low high, length-drop (i + 1) s)))
+    pub pass_cut : length s - i ≤ n → valid (drop i s) ≡ false
+    pass_cut h = sym after_first ∙ expect_cut _ _ (omega (arith, expected_length n low high, length-drop (i + 1) s))
 
     pub pass_one : n ≡ 0 → Passed s i (i + 1)
     pass_one z = some_at i (i + 1) (omega arith) (omega arith) (sym (expected_none n low high z _) ∙ after_first)
 
     module _ (long : n < length s - i) (some : n ≡ 0 → ⊥) where
-      second_out : within (%x low - high) (get_or s (i + 1) 0) ≡ false → Passed s i i
-      second_out w = none_at i inside (sym after_first ∙ tail_out (i + 1) (i + 2) n low high some (omega arith) (omega (arith, some)) w)
+      pub pass_second : within (%x low - high) (get_or s (i + 1) 0) ≡ false → valid (drop i s) ≡ false
+      pass_second w = sym after_first ∙ tail_out (i + 1) (i + 2) n low high some (omega arith) (omega (arith, some)) w
 
-      pub pass_below : get_or s (i + 1) 0 < low → Passed s i i
-      pass_below k = second_out (rw (lt-leb low (get_or s (i + 1) 0) k))
-
-      pub pass_above : high < get_or s (i + 1) 0 → Passed s i i
-      pass_above k = second_out (rw (lt-leb (get_or s (i + 1) 0) high k) (and-false (leb low (get_or s (i + 1) 0))))
-
-      module _ (least : low ≤ get_or s (i + 1) 0) (most : get_or s (i + 1) 0 ≤ high) where
+      module _ (in2 : within (%x low - high) (get_or s (i + 1) 0) ≡ true) where
         after_second : expect (expected_ranges (n - 1) 0x80 0xBF) (drop (i + 2) s) ≡ valid (drop i s)
-        after_second =
-            tail_in (i + 1) (i + 2) n low high some (omega arith) (omega (arith, some)) (rw (le-leb low (get_or s (i + 1) 0) least, le-leb (get_or s (i + 1) 0) high most))
-            ∙ after_first
+        after_second = tail_in (i + 1) (i + 2) n low high some (omega arith) (omega (arith, some)) in2 ∙ after_first
 
         pub pass_two : n ≡ 1 → Passed s i (i + 2)
         pass_two z = some_at i (i + 2) (omega arith) (omega arith) (sym (expected_none (n - 1) _ _ (omega arith) _) ∙ after_second)
@@ -115,8 +104,8 @@ module _ (s : Bytes) where
           third : (n - 1 ≡ 0 → ⊥) × (i + 3 ≤ length s)
           third = (λ z. not_one (omega (arith, some)), omega (arith, some, not_one))
 
-          pub pass_third : within UTF8_tail (get_or s (i + 2) 0) ≡ false → Passed s i i
-          pass_third w = none_at i inside (sym after_second ∙ tail_out (i + 2) (i + 3) (n - 1) _ _ third.0 (omega arith) third.1 w)
+          pub pass_third : within UTF8_tail (get_or s (i + 2) 0) ≡ false → valid (drop i s) ≡ false
+          pass_third w = sym after_second ∙ tail_out (i + 2) (i + 3) (n - 1) _ _ third.0 (omega arith) third.1 w
 
           module _ (in3 : within UTF8_tail (get_or s (i + 2) 0) ≡ true) where
             after_third : expect (expected_ranges (n - 1 - 1) 0x80 0xBF) (drop (i + 3) s) ≡ valid (drop i s)
@@ -129,8 +118,8 @@ module _ (s : Bytes) where
               fourth : (n - 1 - 1 ≡ 0 → ⊥) × (i + 4 ≤ length s)
               fourth = room_for_four n (length s) i (three_or_more n some not_one not_two) long
 
-              pub pass_fourth : within UTF8_tail (get_or s (i + 3) 0) ≡ false → Passed s i i
-              pass_fourth w = none_at i inside (sym after_third ∙ tail_out (i + 3) (i + 4) (n - 1 - 1) _ _ fourth.0 (omega arith) fourth.1 w)
+              pub pass_fourth : within UTF8_tail (get_or s (i + 3) 0) ≡ false → valid (drop i s) ≡ false
+              pass_fourth w = sym after_third ∙ tail_out (i + 3) (i + 4) (n - 1 - 1) _ _ fourth.0 (omega arith) fourth.1 w
 
               pub pass_four : within UTF8_tail (get_or s (i + 3) 0) ≡ true → n ≤ 3 → Passed s i (i + 4)
               pass_four w m =
@@ -160,9 +149,3 @@ module _ (s : Bytes) where
   pub valid_end : (i : ℕ) → length s ≤ i → valid (drop i s) ≡ true
   unfolding valid expect
   valid_end i h = rw (drop_of_length-le s h)
-
-pub passed_more : {s : Bytes} {i j : ℕ} → Passed s i j → (j ≡ i → ⊥) → i < j
-passed_more {s} {i} {j} p n = omega (arith, n, p.from)
-
-pub passed_on : {s : Bytes} {i j : ℕ} → Passed s i j → (j ≡ i → ⊥) → i < length s → length s - j < length s - i
-passed_on {s} {i} {j} p n h = omega (arith, passed_more p n)

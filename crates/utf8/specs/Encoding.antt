@@ -1,5 +1,5 @@
 -- RFC 3629, section 3: what a character number is encoded as.
-use Rattle.std.specs.Prelude.{◌≡◌, cond, List, [], ◌∷◌, ◌++◌, ℕ, ◌+◌, ◌*◌, ◌/◌, ◌%◌, ◌≤◌, ◌<◌, leb}
+use Rattle.std.specs.Prelude.{◌≡◌, cond, List, [], ◌∷◌, ◌++◌, ℕ, ◌+◌, ◌/◌, ◌%◌, ◌≤◌, leb}
 use Rattle.common.specs.Bytes.{Bytes}
 use Rattle.utf8.specs.Abnf.{UTF8_octets}
 

@@ -6,7 +6,7 @@ pub mod theorems;
 
 ghost use Rattle.std.specs.Prelude.{true, ◌≡◌, ◌+◌, ◌<◌, ◌≤◌, drop, get_or, length, take};
 ghost use Rattle.utf8.specs.Abnf.{UTF8_char, UTF8_tail};
-ghost use Rattle.utf8.specs.State.{Ascii, Passed, ranges};
+ghost use Rattle.utf8.specs.State.{Ascii, Passed, Passes, ranges, second};
 ghost use Rattle.utf8.specs.Valid.{between, follow, valid, within};
 
 // What has to come before the next character: count octets, the first from low to high, the others tails.
@@ -17,135 +17,65 @@ struct Expected {
     high: u8,
 }
 
-// What has to follow a first octet. Nothing can where low is above high.
+// What has to follow a first octet. Nothing can where low is above high, as of the range `never` (specs/Valid).
 fn first(b: u8) -> Expected
     ensures { ranges result ≡ follow UTF8_char b }
 {
-    if b < 0x80 {
-        return Expected {
-            count: 0,
-            low: 0x80,
-            high: 0xBF,
-        };
-    }
-    if b < 0xC2 {
-        return Expected {
-            count: 1,
-            low: 1,
-            high: 0,
-        };
-    }
-    if b < 0xE0 {
-        return Expected {
-            count: 1,
-            low: 0x80,
-            high: 0xBF,
-        };
-    }
-    if b < 0xF0 {
-        return first_of_three(b);
-    }
-    first_of_four(b)
+    let (count, low, high) = match b {
+        ..=0x7F => (0, 0x80, 0xBF),
+        ..=0xC1 => (1, 1, 0),
+        ..=0xDF => (1, 0x80, 0xBF),
+        0xE0 => (2, 0xA0, 0xBF),
+        0xED => (2, 0x80, 0x9F),
+        ..=0xEF => (2, 0x80, 0xBF),
+        0xF0 => (3, 0x90, 0xBF),
+        ..=0xF3 => (3, 0x80, 0xBF),
+        0xF4 => (3, 0x80, 0x8F),
+        _ => (1, 1, 0),
+    };
+    Expected { count, low, high }
 }
 
-fn first_of_three(b: u8) -> Expected
-    requires { (0xE0 ≤ b) × (b < 0xF0) }
-    ensures { ranges result ≡ follow UTF8_char b }
+// Whether an octet is from low to high.
+fn is_second(e: Expected, b: u8) -> bool
+    ensures { result ≡ within (second e) b }
 {
-    if b == 0xE0 {
-        return Expected {
-            count: 2,
-            low: 0xA0,
-            high: 0xBF,
-        };
-    }
-    if b == 0xED {
-        return Expected {
-            count: 2,
-            low: 0x80,
-            high: 0x9F,
-        };
-    }
-    Expected {
-        count: 2,
-        low: 0x80,
-        high: 0xBF,
-    }
-}
-
-fn first_of_four(b: u8) -> Expected
-    requires { 0xF0 ≤ b }
-    ensures { ranges result ≡ follow UTF8_char b }
-{
-    if b == 0xF0 {
-        return Expected {
-            count: 3,
-            low: 0x90,
-            high: 0xBF,
-        };
-    }
-    if b < 0xF4 {
-        return Expected {
-            count: 3,
-            low: 0x80,
-            high: 0xBF,
-        };
-    }
-    if b == 0xF4 {
-        return Expected {
-            count: 3,
-            low: 0x80,
-            high: 0x8F,
-        };
-    }
-    Expected {
-        count: 1,
-        low: 1,
-        high: 0,
-    }
+    e.low <= b && b <= e.high
 }
 
 pub fn is_tail(b: u8) -> bool
     ensures { result ≡ within UTF8_tail b }
 {
-    if b < 0x80 {
-        return false;
-    }
-    b <= 0xBF
+    matches!(b, 0x80..=0xBF)
 }
 
-// The place behind the character at i, whose first octet is followed by e; i where it does not end.
-fn pass_tails(s: &[u8], i: usize, e: Expected) -> usize
+// The place behind the character at i, whose first octet is followed by e.
+fn pass_tails(s: &[u8], i: usize, e: Expected) -> Option<usize>
     requires { (i < length s.now) × (e.count ≤ 3) × (ranges e ≡ follow UTF8_char (get_or s.now i 0)) }
-    ensures { Passed s.now i result }
+    ensures { Passes s.now i result }
 {
-    let n = e.count as usize;
-    if s.len() - i <= n {
-        return i;
+    if s.len() - i <= usize::from(e.count) {
+        return None;
     }
-    if n == 0 {
-        return i + 1;
+    if e.count == 0 {
+        return Some(i + 1);
     }
-    let b = s[i + 1];
-    if b < e.low {
-        return i;
+    if !is_second(e, s[i + 1]) {
+        return None;
     }
-    if b > e.high {
-        return i;
-    }
-    if n == 1 {
-        return i + 2;
+    if e.count == 1 {
+        return Some(i + 2);
     }
     if !is_tail(s[i + 2]) {
-        return i;
+        return None;
     }
-    if n == 2 {
-        return i + 3;
+    if e.count == 2 {
+        return Some(i + 3);
     }
     if !is_tail(s[i + 3]) {
-        return i;
+        return None;
     }
-    i + 4
+    Some(i + 4)
 }
 
 // Whether the eight octets at i are ASCII: none has its highest bit set.
@@ -177,14 +107,14 @@ fn pass_ascii(s: &[u8], i: usize) -> usize
     i + 1
 }
 
-// The place behind the character at i, or behind more of ASCII; i where there is no character.
-fn pass(s: &[u8], i: usize) -> usize
+// The place behind the character at i, or behind more of ASCII.
+fn pass(s: &[u8], i: usize) -> Option<usize>
     requires { i < length s.now }
-    ensures { Passed s.now i result }
+    ensures { Passes s.now i result }
 {
     let b = s[i];
     if b < 0x80 {
-        return pass_ascii(s, i);
+        return Some(pass_ascii(s, i));
     }
     pass_tails(s, i, first(b))
 }
@@ -195,10 +125,9 @@ pub fn valid(s: &[u8]) -> bool
 {
     let mut i = 0;
     while i < s.len() {
-        let next = pass(s, i);
-        if next == i {
+        let Some(next) = pass(s, i) else {
             return false;
-        }
+        };
         i = next;
     }
     true
@@ -209,10 +138,7 @@ fn is_between(s: &[u8], i: usize) -> bool
     requires { i ≤ length s.now }
     ensures { result ≡ between s.now i }
 {
-    if i == s.len() {
-        return true;
-    }
-    !is_tail(s[i])
+    i == s.len() || !is_tail(s[i])
 }
 
 // Whether a part of UTF-8 is UTF-8, without reading it: it is where it is empty, or begins and ends between two characters.
@@ -220,11 +146,5 @@ pub fn valid_part(s: &[u8], at: usize, len: usize) -> bool
     requires { (valid s.now ≡ true) × (at + len ≤ length s.now) }
     ensures { result ≡ valid (take len (drop at s.now)) }
 {
-    if len == 0 {
-        return true;
-    }
-    if !is_between(s, at) {
-        return false;
-    }
-    is_between(s, at + len)
+    len == 0 || (is_between(s, at) && is_between(s, at + len))
 }

@@ -1,4 +1,9 @@
 -- A text that is refused or written, by a length that is enough for it.
+use Rattle.visible_text.specs.declared.VisibleTextError.TheVariants.{TooShort}
+use Rattle.visible_text.specs.declared.VisibleTextError.{VisibleTextError}
+use Rattle.tree.specs.declared.questions.QuestionError.{QuestionError}
+use Rattle.sheet.specs.declared.line.Row.{Row}
+use Rattle.std.specs.Prelude.{Result, Ok, Err}
 use mathlib.Core.Path.{◌≡◌, refl, sym, ap, ap₂, ◌∙◌}
 use mathlib.Core.Bool.{Bool, true, false, true≢false}
 use mathlib.Core.List.{◌++◌}
@@ -14,17 +19,13 @@ use Rattle.text.specs.Text.{is_ascii_whitespace}
 use Rattle.tree.specs.Page.{node_at}
 use Rattle.tree.specs.Questions.{asked_of}
 use Rattle.tree.specs.Rows.{children_of}
-use Rattle.tree.specs.declared.questions.Asked.{Asked}
-use Rattle.tree.specs.declared.questions.Asked as asked
 use Rattle.tree.proofs.QuestionsLaws.{asked_by_sheet}
 use Rattle.writer.specs.Out.{Out, nothing}
 use Rattle.writer.specs.Writing.{HeldBy, ReadyBy, DoesBy}
 use Rattle.writer.specs.declared.Writer.{Writer}
 use Rattle.writer.proofs.HeldLaws.{held_none}
-use Rattle.visible_text.specs.Answers.{answered_in, holding, visible_text_in, visible_text_out}
+use Rattle.visible_text.specs.Answers.{of_question, answered_in, holding, visible_text_in, visible_text_out}
 use Rattle.visible_text.specs.VisibleText.{walk, visible}
-use Rattle.visible_text.specs.declared.VisibleText.{VisibleText}
-use Rattle.visible_text.specs.declared.VisibleText.TheVariants.{Text, NoRow, Refused, TooShort}
 use Rattle.visible_text.proofs.CostLaws.{visible_small}
 
 abbrev start : Writer
@@ -60,7 +61,7 @@ module _ {s : Bytes} {l : Layout} {row : ℕ} (a : Accepted s l) (h : row < l.no
       (held.still refl, (omega (arith, held.peak), λ g. held.peak))
 
   module _ {out out' : Bytes} {n : ℕ} (enough : Enough out out' n) where
-    pub too_short : length out' < n → (TooShort n ≡ answered_in o (length out)) × (out' ≡ holding o out)
+    pub too_short : length out' < n → (Err (TooShort n) ≡ answered_in o (length out)) × (out' ≡ holding o out)
     too_short g =
         let need = enough.1.1 (omega (arith, ap length enough.0)) in
         let t = lt-ltb (length out) o.peak (omega (arith, ap length enough.0, need)) in
@@ -82,7 +83,7 @@ module _ {s : Bytes} {l : Layout} {row : ℕ} (a : Accepted s l) (h : row < l.no
         fits = omega (arith, wrote.len, wrote.below, wrote.long, room)
 
         pub written : {final : Bytes} → final ≡ take w.len out'' ++ replicate (length out'' - w.len) 0
-            → (Text w.len ≡ answered_in o (length out)) × (final ≡ holding o out)
+            → (Ok w.len ≡ answered_in o (length out)) × (final ≡ holding o out)
         unfolding visible
         written q =
             let t = le-ltb (length out) (F nothing).peak (omega (arith, ap length enough.0, room)) in
@@ -93,20 +94,18 @@ module _ {s : Bytes} {l : Layout} {row : ℕ} (a : Accepted s l) (h : row < l.no
 -- ---- the answer to a byte string
 
 module _ (s : Bytes) (row : ℕ) (out : Bytes) where
-  abbrev answer_to : Asked → VisibleText
-  answer_to (asked.TheVariants.Of l r) = answered_in (visible (node_at s l) (depths s l) row) (length out)
-  answer_to (asked.TheVariants.NoRow i) = NoRow i
-  answer_to (asked.TheVariants.Refused v) = Refused v
+  abbrev answer_to : Result (Layout × Row) QuestionError → Result ℕ VisibleTextError
+  answer_to (Ok p) = answered_in (visible (node_at s p.0) (depths s p.0) row) (length out)
+  answer_to (Err e) = Err (of_question e)
 
-  abbrev out_to : Asked → Bytes
-  out_to (asked.TheVariants.Of l r) = holding (visible (node_at s l) (depths s l) row) out
-  out_to (asked.TheVariants.NoRow i) = out
-  out_to (asked.TheVariants.Refused v) = out
+  abbrev out_to : Result (Layout × Row) QuestionError → Bytes
+  out_to (Ok p) = holding (visible (node_at s p.0) (depths s p.0) row) out
+  out_to (Err e) = out
 
-  pub answered : {x : Asked} {r : VisibleText} {out' : Bytes} → x ≡ asked_of s row → (r ≡ answer_to x) × (out' ≡ out_to x)
+  pub answered : {x : Result (Layout × Row) QuestionError} {r : Result ℕ VisibleTextError} {out' : Bytes} → x ≡ asked_of s row → (r ≡ answer_to x) × (out' ≡ out_to x)
       → (r ≡ visible_text_in s row (length out)) × (out' ≡ visible_text_out s row out)
   unfolding visible_text_in visible_text_out
   answered e p = (
-    p.0 ∙ ap answer_to e ∙ asked_by_sheet s row answer_to (λ l. refl) refl (λ v. refl),
-    p.1 ∙ ap out_to e ∙ asked_by_sheet s row out_to (λ l. refl) refl (λ v. refl),
+    p.0 ∙ ap answer_to e ∙ asked_by_sheet s row answer_to (λ l. refl) refl (λ e. refl),
+    p.1 ∙ ap out_to e ∙ asked_by_sheet s row out_to (λ l. refl) refl (λ e. refl),
   )

@@ -2,6 +2,7 @@
 use mathlib.Core.Path.{◌≡◌, sym}
 use mathlib.Core.Bool.{Bool}
 use mathlib.Core.List.{[], ◌∷◌}
+use mathlib.Core.Logic.{◌⊎◌, inl, inr}
 use Prim.Native.Nat.{ℕ}
 use borrow.Author.Tests.{ne_eqb}
 use Rattle.common.specs.Bytes.{Bytes}
@@ -18,21 +19,24 @@ abbrev Inserts : ℕ → Bytes → Type 0
 Inserts step s = (o : Out) → insert_by step o ≡ push_all s (strip_by is_ascii_whitespace o)
 
 module _ (step : ℕ) where
-  pub inserts_block : step ≡ block → Inserts step (0x0a ∷ [])
+  inserts_block : step ≡ block → Inserts step (0x0a ∷ [])
   unfolding insert_by
   inserts_block e o = rw e
 
-  pub inserts_pre : step ≡ pre → Inserts step (0x0a ∷ [])
+  inserts_pre : step ≡ pre → Inserts step (0x0a ∷ [])
   unfolding insert_by
   inserts_pre e o = rw e
+
+  pub inserts_line : (step ≡ block) ⊎ (step ≡ pre) → Inserts step (0x0a ∷ [])
+  inserts_line = elim [ inl e ↦ inserts_block e | inr e ↦ inserts_pre e ]
 
   pub inserts_paragraph : step ≡ paragraph → Inserts step (0x0a ∷ 0x0a ∷ [])
   unfolding insert_by
   inserts_paragraph e o = rw e
 
-  pub inserts_none : (step ≡ block → ⊥) → (step ≡ pre → ⊥) → (step ≡ paragraph → ⊥) → (o : Out) → insert_by step o ≡ o
+  pub inserts_none : ((step ≡ block) ⊎ (step ≡ pre) → ⊥) → (step ≡ paragraph → ⊥) → (o : Out) → insert_by step o ≡ o
   unfolding insert_by
-  inserts_none a b c o = simp (ne_eqb step block a, ne_eqb step pre b, ne_eqb step paragraph c)
+  inserts_none a c o = simp (ne_eqb step block (λ e. a (inl e)), ne_eqb step pre (λ e. a (inr e)), ne_eqb step paragraph c)
 
 module _ {write : Bool} {w : Writer} {buf : Bytes} {F : Out → Out} where
   module _ (s : Bytes) (e : (o : Out) → F o ≡ push_all s (strip_by is_ascii_whitespace o)) {q : Writer} (q_is : q ≡ trimmed w) where

@@ -1,9 +1,9 @@
 -- The Rust's two loops give the text of the recursion, each within as many passes as there are rows.
+use Rattle.std.specs.Prelude.{Option, None, Some}
 use mathlib.Core.Path.{◌≡◌, refl, sym, ap, ◌∙◌}
 use mathlib.Core.Bool.{Bool, true, false, cond}
 use mathlib.Core.List.{List, ◌++◌}
 use mathlib.Core.Logic.{inl, inr}
-use mathlib.Core.Option.{Option, none, some}
 use Prim.Native.Nat.{ℕ, zero, suc, ◌+◌, ◌-◌, ◌≤◌, ◌<◌}
 use native.Mathlib.Nat.{zero-add}
 use native.Mathlib.Omega.{arith}
@@ -34,7 +34,7 @@ module _ (depths : List ℕ) where
   own p empty h = tt
   own p (node i children rest) h = (
     h p i children rest (inl (refl, refl, refl, refl)),
-    own (some i) children (λ q j cs rs v. h q j cs rs (inr (inl v))),
+    own (Some i) children (λ q j cs rs v. h q j cs rs (inr (inl v))),
     own p rest (λ q j cs rs v. h q j cs rs (inr (inr v))),
   )
 
@@ -43,9 +43,9 @@ module _ (depths : List ℕ) where
     root_own root h =
         let s = each_row depths w root h in
         rw (← (place_is depths s.parent root s.children s.rest s.place).children_are)
-        (own (some root) s.children
+        (own (Some root) s.children
         (λ q i cs rs v.
-        (place_is depths q i cs rs (place_below s.parent root s.children s.rest q i cs rs none _ s.place v)).children_are))
+        (place_is depths q i cs rs (place_below s.parent root s.children s.rest q i cs rs None _ s.place v)).children_are))
 
     depth_most : (i : ℕ) → i < length depths → get_or depths i 0 ≤ i
     depth_most zero h = omega (arith, w.root)
@@ -72,25 +72,25 @@ module _ (node_of : ℕ → Node) (depths : List ℕ) (w : WellFormed depths) (r
   abbrev going_on : ℕ → ℕ → Out → Out
   going_on k i o = from k (climb_at most i o)
 
-  stop : (k : ℕ) (o : Out) → loop_at k none o ≡ o
+  stop : (k : ℕ) (o : Out) → loop_at k None o ≡ o
   unfolding loop_from
   stop zero o = refl
   stop (suc k) o = refl
 
   -- ---- the inner loop
 
-  climb_root : (n : ℕ) (o : Out) → climb_at n root o ≡ record { row = some root; text = o }
+  climb_root : (n : ℕ) (o : Out) → climb_at n root o ≡ record { row = Some root; text = o }
   unfolding climb
   climb_root zero o = refl
   climb_root (suc n) o = rw (eq-eqb root root refl, climb)
 
-  climb_beside : (n i j : ℕ) (o : Out) → eqb i root ≡ false → next_sibling_of depths i ≡ some j
-      → climb_at n i o ≡ record { row = some i; text = o }
+  climb_beside : (n i j : ℕ) (o : Out) → eqb i root ≡ false → next_sibling_of depths i ≡ Some j
+      → climb_at n i o ≡ record { row = Some i; text = o }
   unfolding climb
   climb_beside zero i j o e s = refl
   climb_beside (suc n) i j o e s = rw (e, climb) (rw s)
 
-  climb_up : (n i p : ℕ) (o : Out) → RowStands depths root i p → next_sibling_of depths i ≡ none
+  climb_up : (n i p : ℕ) (o : Out) → RowStands depths root i p → next_sibling_of depths i ≡ None
       → climb_at (suc n) i o ≡ climb_at n p (end node_of i o)
   unfolding climb
   climb_up n i p o r s = rw (r.below, climb) (rw s (rw r.parent))
@@ -102,10 +102,10 @@ module _ (node_of : ℕ → Node) (depths : List ℕ) (w : WellFormed depths) (r
   climbs_root : Climbs root
   climbs_root n o h = climb_root (suc n) o ∙ sym (climb_root n o)
 
-  climbs_beside : (i j : ℕ) → eqb i root ≡ false → next_sibling_of depths i ≡ some j → Climbs i
+  climbs_beside : (i j : ℕ) → eqb i root ≡ false → next_sibling_of depths i ≡ Some j → Climbs i
   climbs_beside i j e s n o h = climb_beside (suc n) i j o e s ∙ sym (climb_beside n i j o e s)
 
-  climbs_up : (i p : ℕ) → RowStands depths root i p → next_sibling_of depths i ≡ none → Climbs p → Climbs i
+  climbs_up : (i p : ℕ) → RowStands depths root i p → next_sibling_of depths i ≡ None → Climbs p → Climbs i
   climbs_up i p r s up zero o h = absurd (omega (arith, (above_found depths (get_or depths i 0) i p r.parent).1))
   climbs_up i p r s up (suc n) o h =
       climb_up (suc n) i p o r s
@@ -122,11 +122,11 @@ module _ (node_of : ℕ → Node) (depths : List ℕ) (w : WellFormed depths) (r
   go_root : (k : ℕ) (o : Out) → going_on k root o ≡ o
   go_root k o = ap (from k) (climb_root most o) ∙ rw (eq-eqb root root refl) (stop k o)
 
-  go_beside : (k i j : ℕ) (o : Out) → eqb i root ≡ false → next_sibling_of depths i ≡ some j
+  go_beside : (k i j : ℕ) (o : Out) → eqb i root ≡ false → next_sibling_of depths i ≡ Some j
       → going_on k i o ≡ loop_at k (next_sibling_of depths i) o
   go_beside k i j o e s = ap (from k) (climb_beside most i j o e s) ∙ rw e
 
-  go_up : (k i p : ℕ) (o : Out) → RowStands depths root i p → next_sibling_of depths i ≡ none → Climbs p
+  go_up : (k i p : ℕ) (o : Out) → RowStands depths root i p → next_sibling_of depths i ≡ None → Climbs p
       → going_on k i o ≡ going_on k p (end node_of i o)
   go_up k i p o r s up =
       let n = most - 1 in
@@ -155,7 +155,7 @@ module _ (node_of : ℕ → Node) (depths : List ℕ) (w : WellFormed depths) (r
   go_row : (b : Bool) (children : Forest ℕ) (i : ℕ) → enters node_of i ≡ b → children ≡ children_of depths i
       → Stands depths root children (first_child_of depths i) i
       → (has_trees children ≡ true → ForestGoes children (first_child_of depths i) i)
-      → (k : ℕ) (o : Out) → loop_at (suc (cond b (begun children) 0 + k)) (some i) o ≡ going_on k i (below b i children o)
+      → (k : ℕ) (o : Out) → loop_at (suc (cond b (begun children) 0 + k)) (Some i) o ≡ going_on k i (below b i children o)
   unfolding loop_from walk
   go_row false children i e c s later k o = rw (e, loop_from) (rw (← c, zero-add))
   go_row true empty i e c s later k o = rw (e, loop_from) (rw (s, ← c, zero-add))

@@ -1,65 +1,34 @@
 -- White_Space as the code tests it: at a place in a text, and as many bytes of it as stand in front.
 use mathlib.Core.Path.{◌≡◌, refl, sym, ap, ◌∙◌}
-use mathlib.Core.Bool.{Bool, true, false, ◌||◌, cond}
+use mathlib.Core.Bool.{Bool, true, false, cond}
 use mathlib.Core.List.{[], ◌∷◌}
 use Prim.Native.Nat.{ℕ, suc, ◌+◌, ◌*◌, ◌≤◌, ◌<◌}
 use native.Mathlib.Omega.{arith}
 use native.Mathlib.Numerals.{add-one}
-use lib.Dec.{eqb, leb}
+use lib.Dec.{eqb}
 use lib.ListN.{length, get_or, drop, length-drop, drop_of_length-le}
 use lib.Seq.{drop-cons, drop-drop}
-use borrow.Author.Tests.{le-leb, lt-leb, ne_eqb}
+use borrow.Author.Tests.{ne_eqb}
 use Rattle.common.specs.Bytes.{Bytes}
 use Rattle.common.proofs.Choice.{by_cond}
-use Rattle.common.proofs.TestLaws.{or_no}
-use Rattle.visible_text.specs.WhiteSpace.{is_white1, white_code2, white_code3, white_two, white_three, white_third, white_second}
+use Rattle.visible_text.specs.WhiteSpace.{is_white1, white_code3, white_two, white_three, white_third, white_second}
 use Rattle.visible_text.specs.WhiteSpace.{white_length, trim_from, trim_start}
-use Rattle.visible_text.proofs.WhiteLaws.{trim_none, trim_step, not_between, not_two}
-
--- ---- one byte
-
-pub one_low : (a : ℕ) → (a ≡ 32 → ⊥) → a < 9 → false ≡ is_white1 a
-one_low a n h = sym (rw (lt-leb 9 a h, ne_eqb a 32 n))
-
-pub one_else : (a : ℕ) → (a ≡ 32 → ⊥) → 9 ≤ a → leb a 13 ≡ is_white1 a
-one_else a n h = sym (rw (le-leb 9 a h, ne_eqb a 32 n) (or_none (leb a 13)))
-  where
-    or_none : (t : Bool) → (t || false) ≡ t
-    or_none true = refl
-    or_none false = refl
+use Rattle.visible_text.proofs.WhiteLaws.{trim_none, trim_step}
 
 -- ---- two bytes and three, as one number
 
 module _ (a b : ℕ) {x y : ℕ} (p : x ≡ a) (q : y ≡ b) where
-  pub two_yes : white_code2 (256 * x + y) ≡ true → true ≡ white_two a b
+  pub two_yes : 256 * x + y ≡ 0xC285 → eqb (256 * x + y) 0xC285 ≡ white_two a b
   unfolding white_two
-  two_yes e = sym (rw (← p, ← q) e)
+  two_yes e = rw (← p, ← q, e)
 
-  pub two_no : (256 * x + y ≡ 0xC285 → ⊥) → (256 * x + y ≡ 0xC2A0 → ⊥) → false ≡ white_two a b
-  two_no h k = sym (rw (← p, ← q) (not_two x y h k))
+  pub two_else : (256 * x + y ≡ 0xC285 → ⊥) → eqb (256 * x + y) 0xC2A0 ≡ white_two a b
+  unfolding white_two
+  two_else h = sym (rw (← p, ← q, ne_eqb (256 * x + y) 0xC285 h))
 
   pub three_code : {z : ℕ} (c : ℕ) → z ≡ c → {r : Bool} → r ≡ white_code3 (65536 * x + 256 * y + z) → r ≡ white_three a b c
   unfolding white_three
   three_code c t e = rw (← p, ← q, ← t) e
-
-module _ (n : ℕ) (n1 : n ≡ 0xE19A80 → ⊥) where
-  pub code_range : 0xE28080 ≤ n → n ≤ 0xE2808A → true ≡ white_code3 n
-  code_range h k = sym (rw (ne_eqb n 0xE19A80 n1, le-leb 0xE28080 n h, le-leb n 0xE2808A k))
-
-  pub code_last : (0xE28080 ≤ n → n ≤ 0xE2808A → ⊥) → (n ≡ 0xE280A8 → ⊥) → (n ≡ 0xE280A9 → ⊥) → (n ≡ 0xE280AF → ⊥) → (n ≡ 0xE2819F → ⊥)
-      → eqb n 0xE38080 ≡ white_code3 n
-  code_last h a b c d =
-      or_no _ (ne_eqb n 0xE19A80 n1)
-      (or_no _ (not_between 0xE28080 n 0xE2808A h)
-      (or_no _ (ne_eqb n 0xE280A8 a)
-      (or_no _ (ne_eqb n 0xE280A9 b)
-      (or_no _ (ne_eqb n 0xE280AF c)
-      (or_no _ (ne_eqb n 0xE2819F d)
-      refl)))))
-
-  pub code_low : n < 0xE28080 → false ≡ white_code3 n
-  code_low h =
-      sym (ne_eqb n 0xE38080 (omega arith)) ∙ code_last (λ l m. omega arith) (omega arith) (omega arith) (omega arith) (omega arith)
 
 -- ---- at a place in a text
 
@@ -69,6 +38,11 @@ module _ (s : Bytes) (i : ℕ) where
 
   here : i < length s → drop i s ≡ get_or s i 0 ∷ drop (i + 1) s
   here h = rw add-one (drop-cons s i 0 h)
+
+pub length_none : (s : Bytes) → length s < 1 → 0 ≡ white_length s
+unfolding white_length
+length_none [] h = refl
+length_none (a ∷ s) h = absurd (omega arith)
 
 module _ (s : Bytes) (i : ℕ) (h : i < length s) where
   pub length_one : is_white1 (get_or s i 0) ≡ true → 1 ≡ white_length (drop i s)

@@ -1,7 +1,6 @@
 -- `node_format_visible_text` of serialize.rs (document 02, request 6): the text of a row, with the greatest length that it has on the way.
 -- Skip marks, options and the sheet's root are not asked.
-use Rattle.std.specs.Prelude.{Bool, true, false, not, cond, List, [], ◌∷◌, ℕ, zero, suc, eqb}
-use Rattle.std.proofs.Math.Option.{Option, none, some}
+use Rattle.std.specs.Prelude.{Bool, true, false, not, cond, List, [], ◌∷◌, ℕ, zero, suc, eqb, Option, None, Some}
 use Rattle.common.specs.Bytes.{Bytes}
 use Rattle.sheet.specs.Column.{parent_of}
 use Rattle.tags.specs.Words.{words, is, one_of}
@@ -110,25 +109,25 @@ module _ (node_of : ℕ → Node) (depths : List ℕ) (root : ℕ) where
   -- }
   -- in at most k passes
   unfoldable pub climb : ℕ → ℕ → Out → Cursor
-  climb zero i o = record { row = some i; text = o }
+  climb zero i o = record { row = Some i; text = o }
   climb (suc k) i o =
       elim (not (eqb i root)) [
-        | false ↦ record { row = some i; text = o }
+        | false ↦ record { row = Some i; text = o }
         | true ↦
             elim (next_sibling_of depths i) [
-              | some j ↦ record { row = some i; text = o }
-              | none ↦ elim (parent_of depths i) [ some p ↦ climb k p (end node_of i o) | none ↦ record { row = none; text = end node_of i o } ]
+              | Some j ↦ record { row = Some i; text = o }
+              | None ↦ elim (parent_of depths i) [ Some p ↦ climb k p (end node_of i o) | None ↦ record { row = None; text = end node_of i o } ]
             ]
       ]
 
   -- `if node == root { break; }`, `node = (*node).next;`
   abbrev pub following : Option ℕ → Option ℕ
-  following none = none
-  following (some i) = cond (eqb i root) none (next_sibling_of depths i)
+  following None = None
+  following (Some i) = cond (eqb i root) None (next_sibling_of depths i)
 
   -- `!(*node).first_child.is_null() && action != LEXBOR_ACTION_NEXT`: the first child, where the walk goes down to it
   abbrev pub down : ℕ → Option ℕ
-  down i = cond (enters node_of i) (first_child_of depths i) none
+  down i = cond (enters node_of i) (first_child_of depths i) None
 
   -- while !node.is_null() {
   --     action = begin_fn(node, ctx);
@@ -140,12 +139,12 @@ module _ (node_of : ℕ → Node) (depths : List ℕ) (root : ℕ) where
   -- in at most k passes, with at most `most` of the inner loop in each; no step answers LEXBOR_ACTION_STOP, since no node is null
   unfoldable pub loop_from : ℕ → ℕ → Option ℕ → Out → Out
   loop_from most zero c o = o
-  loop_from most (suc k) none o = o
-  loop_from most (suc k) (some i) o =
+  loop_from most (suc k) None o = o
+  loop_from most (suc k) (Some i) o =
       let begun : Out = begin node_of i (children_of depths i) o in
       elim (down i) [
-        | some j ↦ loop_from most k (some j) begun
-        | none ↦
+        | Some j ↦ loop_from most k (Some j) begun
+        | None ↦
             let climbed : Cursor = climb most i begun in
             loop_from most k (following climbed.row) climbed.text
       ]

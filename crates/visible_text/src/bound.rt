@@ -33,16 +33,13 @@ pub fn bound(s: &[u8], l: Layout, row: usize) -> usize
     requires { Accepted s.now l × (row < l.nodes) }
     ensures { (visible (node_at s.now l) (depths s.now l) row).peak ≤ result }
 {
-    let nodes = l.nodes;
     let d = depth_at(s, l, row);
     let mut n = 0;
-    let mut j = row + 1;
-    while j < nodes {
+    for j in row + 1..l.nodes {
         if depth_at(s, l, j) <= d {
             return n;
         }
         n += value_len_at(s, l, j) + FEEDS;
-        j += 1;
     }
     n
 }

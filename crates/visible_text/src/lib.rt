@@ -5,7 +5,7 @@ ghost use Rattle.std.specs.Prelude.{◌≡◌, ◌≤◌, ◌<◌, length};
 ghost use Rattle.sheet.specs.Accepted.{Accepted};
 ghost use Rattle.sheet.specs.Layout.{depths, most_depth};
 ghost use Rattle.tree.specs.Page.{node_at};
-ghost use Rattle.visible_text.specs.Answers.{answered_in, holding, visible_text_in, visible_text_out};
+ghost use Rattle.visible_text.specs.Answers.{answered_in, holding, of_question, visible_text_in, visible_text_out};
 ghost use Rattle.visible_text.specs.VisibleText.{visible};
 
 use crate::bound::bound;
@@ -13,8 +13,8 @@ use crate::names::INLINE;
 use crate::rows::dom_node_walk;
 use sheet::limits::MOST_DEPTH;
 use sheet::line::Layout;
-use sheet::verdict::Verdict;
-use tree::questions::{Asked, ask};
+use sheet::verdict::SheetError;
+use tree::questions::{QuestionError, ask};
 use writer::Writer;
 
 mod bound;
@@ -25,21 +25,24 @@ mod texts;
 pub mod theorems;
 mod white_space;
 
-// So many bytes are written; or the row is not there, the sheet is refused, or the output is shorter than the need.
-#[derive(Clone, Copy)]
-pub enum VisibleText {
-    Text(usize),
+// Why there is no text, or none that is whole: with what is wrong with the sheet, the row, or the need.
+#[derive(Clone, Copy, Debug, PartialEq, Eq)]
+pub enum VisibleTextError {
+    Refused(SheetError),
     NoRow(usize),
-    Refused(Verdict),
     TooShort(usize),
 }
 
-// No text yet.
-const START: Writer = Writer {
-    len: 0,
-    kept: 0,
-    peak: 0,
-};
+impl From<QuestionError> for VisibleTextError {
+    ghost from_gives = { λ e r. r ≡ of_question e };
+
+    fn from(e: QuestionError) -> VisibleTextError {
+        match e {
+            QuestionError::Refused(e) => VisibleTextError::Refused(e),
+            QuestionError::NoRow(i) => VisibleTextError::NoRow(i),
+        }
+    }
+}
 
 // A length that is enough for the text of a row: the bound, or the need itself, measured, where `out` is shorter than the bound.
 fn enough(s: &[u8], l: Layout, row: usize, steps: &mut [u8], out: &mut [u8]) -> usize
@@ -53,12 +56,12 @@ fn enough(s: &[u8], l: Layout, row: usize, steps: &mut [u8], out: &mut [u8]) -> 
     if most <= out.len() {
         return most;
     }
-    let measured = dom_node_walk(START, s, l, row, steps, out, false);
+    let measured = dom_node_walk(Writer::START, s, l, row, steps, out, false);
     measured.peak
 }
 
 // The text of a row of an accepted sheet, written where `out` is long enough.
-fn visible_in(s: &[u8], l: Layout, row: usize, out: &mut [u8]) -> VisibleText
+fn visible_in(s: &[u8], l: Layout, row: usize, out: &mut [u8]) -> Result<usize, VisibleTextError>
     requires { Accepted s.now l × (row < l.nodes) }
     ensures answer { result
         ≡ answered_in (visible (node_at s.now l) (depths s.now l) row) (length out.old) }
@@ -68,22 +71,19 @@ fn visible_in(s: &[u8], l: Layout, row: usize, out: &mut [u8]) -> VisibleText
     let mut steps = [INLINE; MOST_DEPTH];
     let need = enough(s, l, row, &mut steps, out);
     if out.len() < need {
-        return VisibleText::TooShort(need);
+        return Err(VisibleTextError::TooShort(need));
     }
-    let written = dom_node_walk(START, s, l, row, &mut steps, out, true);
+    let written = dom_node_walk(Writer::START, s, l, row, &mut steps, out, true);
     let n = written.len;
     common::clear(out, n);
-    VisibleText::Text(n)
+    Ok(n)
 }
 
 // The visible text of a row, and zeros behind it.
-pub fn visible_text(sheet: &[u8], row: usize, out: &mut [u8]) -> VisibleText
+pub fn visible_text(sheet: &[u8], row: usize, out: &mut [u8]) -> Result<usize, VisibleTextError>
     ensures answer { result ≡ visible_text_in sheet.now row (length out.old) }
     ensures buffer { out.new ≡ visible_text_out sheet.now row out.old }
 {
-    match ask(sheet, row) {
-        Asked::Of(l, _) => visible_in(sheet, l, row, out),
-        Asked::NoRow(i) => VisibleText::NoRow(i),
-        Asked::Refused(v) => VisibleText::Refused(v),
-    }
+    let (l, _) = ask(sheet, row)?;
+    visible_in(sheet, l, row, out)
 }

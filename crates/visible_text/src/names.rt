@@ -125,13 +125,10 @@ fn step_of_long(name: &[u8]) -> u8
     if common::same(name, b"noscript") {
         return SILENT;
     }
-    if common::same(name, b"fieldset") {
-        return BLOCK;
-    }
-    if common::same(name, b"blockquote") {
-        return BLOCK;
-    }
-    if common::same(name, b"figcaption") {
+    if common::same(name, b"fieldset")
+        || common::same(name, b"blockquote")
+        || common::same(name, b"figcaption")
+    {
         return BLOCK;
     }
     INLINE

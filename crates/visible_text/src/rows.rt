@@ -30,9 +30,7 @@ fn end_rows(
         (ends_of steps.now count (count - left)) }
 {
     let mut q = w;
-    let mut n = count;
-    while left < n {
-        n -= 1;
+    for n in (left..count).rev() {
         q = insert_block(q, steps[n], out, write);
     }
     q

@@ -17,7 +17,7 @@ use crate::names::{BLOCK, BR, INLINE, PARAGRAPH, PRE, SILENT, step_of};
 use crate::texts::{add_text, push, push_str};
 use sheet::line::{Layout, Row};
 use sheet::read::{depth_at, part, row_at};
-use writer::{Writer, trim_end};
+use writer::Writer;
 
 // What the steps make of the row whose numbers are `r`: a text is inline, and nothing is made of a comment.
 pub fn step_in(s: &[u8], l: Layout, r: Row) -> u8
@@ -39,9 +39,8 @@ pub fn insert_block(w: Writer, step: u8, out: &mut [u8], write: bool) -> Writer
     ensures { DoesBy is_ascii_whitespace write w out.old result out.new (insert_by step) }
 {
     match step {
-        BLOCK => push(trim_end(w), 10, out, write),
-        PRE => push(trim_end(w), 10, out, write),
-        PARAGRAPH => push_str(trim_end(w), b"\n\n", out, write),
+        BLOCK | PRE => push(w.trim_end(), b'\n', out, write),
+        PARAGRAPH => push_str(w.trim_end(), b"\n\n", out, write),
         _ => w,
     }
 }
@@ -68,16 +67,13 @@ fn push_content(w: Writer, s: &[u8], l: Layout, i: usize, out: &mut [u8], write:
     ensures { DoesBy is_ascii_whitespace write w out.old result out.new
         (push_all (text_content (node_at s.now l) i (children_of (depths s.now l) i))) }
 {
-    let nodes = l.nodes;
     let d = depth_at(s, l, i);
     let mut q = w;
-    let mut j = i + 1;
-    while j < nodes {
+    for j in i + 1..l.nodes {
         if depth_at(s, l, j) <= d {
             return q;
         }
         q = push_data(q, s, l, j, out, write);
-        j += 1;
     }
     q
 }
@@ -103,7 +99,7 @@ pub fn begin(
     }
     match step {
         PRE => push_content(w, s, l, i, out, write),
-        BR => push(w, 10, out, write),
+        BR => push(w, b'\n', out, write),
         _ => insert_block(w, step, out, write),
     }
 }

@@ -1,5 +1,5 @@
 -- The visits of a walk: what a pass asks of the noted columns, and what is left of the events where the walk stands.
-use Rattle.std.specs.Prelude.{◌≡◌, Bool, false, List, [], ◌∷◌, ℕ, suc, ◌+◌, ◌≤◌, ◌<◌, length, get_or}
+use Rattle.std.specs.Prelude.{◌≡◌, Bool, false, List, [], ◌∷◌, ℕ, suc, ◌≤◌, ◌<◌, length, get_or, Option, None, Some}
 use Rattle.common.specs.Bytes.{Bytes}
 use Rattle.options.specs.declared.ExtractOptions.{ExtractOptions}
 use Rattle.sheet.specs.Accepted.{Accepted}
@@ -18,8 +18,6 @@ use Rattle.walk.specs.Turns.{turns, turns_left, events_of, flagged, Fits}
 use Rattle.walk.specs.declared.cursor.Turn.{Turn}
 use Rattle.walk.specs.declared.cursor.Turn.TheVariants.{Begin, End, LeftOut}
 use Rattle.walk.specs.declared.cursor.Walk.{Walk}
-use Rattle.visits.specs.declared.Seen.{Seen}
-use Rattle.visits.specs.declared.Seen as seen
 
 -- a visit to row i, with its numbers from the columns
 abbrev pub visit_of : List ℕ → List ℕ → List ℕ → List ℕ → ℕ → ℕ → Bool → Bool → Visit
@@ -94,10 +92,18 @@ module _ (s : Bytes) (l : Layout) where
     pub fits : Fits (layout.depths s l) (length stack) w
     pub shown : EachShown (passes_left left w stack)
 
+  -- a visit is one to a row of the sheet; at a row that is left out there is none
+  abbrev pub VisitsAny : Option Visit → Type 0
+  VisitsAny (Some v) = Visits s l v
+  VisitsAny None = Unit {0}
+
+  -- its event, before others
+  abbrev pub event_before : Option Visit → List Event → List Event
+  event_before (Some v) events = event_of s l v ∷ events
+  event_before None events = events
+
   -- of the passes `ts`, a visit is the first, or a row that is left out, and the others are left after it; or none is left
-  abbrev pub Sees : List Bool → List Turn → Seen → List ℕ → Type 0
-  Sees left ts (seen.TheVariants.Visit v w) stack =
-      Visits s l v × (events_in ts ≡ event_of s l v ∷ events_left left w stack) × (length ts ≡ suc (length (passes_left left w stack))) × WalkStands left w stack
-  Sees left ts (seen.TheVariants.LeftOut w) stack =
-      (events_in ts ≡ events_left left w stack) × (length ts ≡ suc (length (passes_left left w stack))) × WalkStands left w stack
-  Sees left ts seen.TheVariants.Done stack = ts ≡ []
+  abbrev pub Sees : List Bool → List Turn → Option (Option Visit × Walk) → List ℕ → Type 0
+  Sees left ts (Some p) stack =
+      VisitsAny p.0 × (events_in ts ≡ event_before p.0 (events_left left p.1 stack)) × (length ts ≡ suc (length (passes_left left p.1 stack))) × WalkStands left p.1 stack
+  Sees left ts None stack = ts ≡ []

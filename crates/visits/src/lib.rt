@@ -6,15 +6,7 @@ ghost use Rattle.visits.specs.Visiting.{Noted, Sees, WalkStands, passes_left, vi
 
 use collect::Visit;
 use sheet::line::Layout;
-use walk::cursor::{Next, Turn, Walk, advance};
-
-// A pass that visits a row, a pass at a row that is left out, or none.
-#[derive(Clone, Copy)]
-pub enum Seen {
-    Visit(Visit, Walk),
-    LeftOut(Walk),
-    Done,
-}
+use walk::cursor::{Turn, Walk, advance};
 
 // A visit to a row, with its numbers from the columns.
 fn visit_at(
@@ -42,7 +34,8 @@ fn visit_at(
     }
 }
 
-// The next pass of the walk. The sheet is named for the contract.
+// The next pass of the walk: the visit that it makes, or none at a row that is left out, and where the walk then stands. The sheet is
+// named for the contract.
 pub fn see(
     s: &[u8],
     l: Layout,
@@ -54,14 +47,12 @@ pub fn see(
     left: &[bool],
     stack: &mut [usize],
     w: Walk,
-) -> Seen
+) -> Option<(Option<Visit>, Walk)>
     requires noted { Noted s.now l depths.now tags.now attributes.now values.now lengths.now }
     requires nodes_in_bounds { (l.nodes ≤ length left.now) × WalkStands s.now l left.now w stack.old }
     ensures { Sees s.now l left.now (passes_left s.now l left.now w stack.old) result stack.new }
 {
-    let Next::Turn(t, after) = advance(depths, left, stack, w) else {
-        return Seen::Done;
-    };
+    let (t, after) = advance(depths, left, stack, w)?;
     match t {
         Turn::Begin {
             row,
@@ -71,12 +62,12 @@ pub fn see(
             let v = visit_at(
                 tags, attributes, values, lengths, row, depth, children, false,
             );
-            Seen::Visit(v, after)
+            Some((Some(v), after))
         }
         Turn::End { row, depth } => {
             let v = visit_at(tags, attributes, values, lengths, row, depth, true, true);
-            Seen::Visit(v, after)
+            Some((Some(v), after))
         }
-        Turn::LeftOut => Seen::LeftOut(after),
+        Turn::LeftOut => Some((None, after)),
     }
 }

@@ -1,4 +1,5 @@
 -- Each way of the cursor takes the first of the passes that are left.
+use Rattle.std.specs.Prelude.{Some}
 use mathlib.Core.Path.{◌≡◌, refl, sym, ap, subst, ◌∙◌}
 use mathlib.Core.Bool.{Bool, true, false}
 use mathlib.Core.List.{List, [], ◌∷◌, ◌++◌, append-nil}
@@ -12,8 +13,6 @@ use Rattle.tree.proofs.Forests.{stands_there, forest_none, children_are}
 use Rattle.tree.proofs.OpenRows.{open_length, open_more, open_less}
 use Rattle.tree.proofs.PastLaws.{past_at}
 use Rattle.walk.specs.Turns.{tree_at, turns, flagged, remaining, turns_left, ColumnRight, Fits, Advances}
-use Rattle.walk.specs.declared.cursor.Next.{Next}
-use Rattle.walk.specs.declared.cursor.Next as next
 use Rattle.walk.specs.declared.cursor.Turn.{Turn}
 use Rattle.walk.specs.declared.cursor.Turn.TheVariants.{Begin, End, LeftOut}
 use Rattle.walk.specs.declared.cursor.Walk.{Walk}
@@ -34,20 +33,20 @@ module _ (depths : List ℕ) (left : List Bool) (stack : List ℕ) (base above k
         let d : suc (get_or depths k 0) ≡ base + above + 1 = omega arith in
         children_are depths right.column k h ∙ rw (d, ← add-one) (sym s)
 
-    pub reach_left_out : get_or left k false ≡ true → Advances depths left reached (next.TheVariants.Turn LeftOut (Below base (k + 1) above)) stack
+    pub reach_left_out : get_or left k false ≡ true → Advances depths left reached (Some (LeftOut, Below base (k + 1) above)) stack
     reach_left_out l = (
       turns_left_out (flagged left) above k (children_of depths k) _ l ∙ ap (λ (ts : List Turn). LeftOut ∷ ts) after_is,
       omega (arith, right.deep k h),
     )
 
     module _ (kept : get_or left k false ≡ false) where
-      pub reach_alone : false ≡ stands_at depths (k + 1) (base + above + 1) → Advances depths left reached (next.TheVariants.Turn (Begin k above false) (Below base (k + 1) above)) stack
+      pub reach_alone : false ≡ stands_at depths (k + 1) (base + above + 1) → Advances depths left reached (Some (Begin k above false, Below base (k + 1) above)) stack
       reach_alone s = (
         turns_alone (flagged left) above k (children_of depths k) _ kept (children_of_law s) ∙ ap (λ (ts : List Turn). Begin k above false ∷ ts) after_is,
         omega (arith, right.deep k h),
       )
 
-      pub reach_open : true ≡ stands_at depths (k + 1) (base + above + 1) → Advances depths left reached (next.TheVariants.Turn (Begin k above true) (Below base (k + 1) (above + 1))) (set stack above k)
+      pub reach_open : true ≡ stands_at depths (k + 1) (base + above + 1) → Advances depths left reached (Some (Begin k above true, Below base (k + 1) (above + 1))) (set stack above k)
       reach_open s =
           let room : above < length stack = omega (arith, right.deep k h) in
           let up = open_rows stack above in
@@ -88,7 +87,7 @@ module _ (depths : List ℕ) (left : List Bool) (stack : List ℕ) (base k : ℕ
       ∙ rw (l, open_less)
 
   pub end_below : (above j : ℕ) → (above ≡ 0 → ⊥) → j ≡ past_from (base + above) k (drop k depths) → base + above ≤ length stack → false ≡ stands_at depths j (base + above)
-      → Advances depths left (below above) (next.TheVariants.Turn (End (get_or stack (above - 1) 0) (above - 1)) (Below base j (above - 1))) stack
+      → Advances depths left (below above) (Some (End (get_or stack (above - 1) 0) (above - 1), Below base j (above - 1))) stack
   end_below zero j n j_is room s = absurd (n refl)
   end_below (suc n) j m j_is room s =
       let l = open_length stack n in
@@ -112,13 +111,3 @@ pub left_at_root : (depths : List ℕ) (left : List Bool) (stack : List ℕ) (i 
     → turns_left depths (flagged left) w stack ≡ reached depths left stack (get_or depths i 0) 0 i
 unfolding open_rows remaining
 left_at_root depths left stack i e = left_of depths (flagged left) stack e ∙ sym (append-nil (turns (flagged left) 0 (tree_at depths i)))
-
--- ---- the two answers taken apart
-
-module _ (depths : List ℕ) (left : List Bool) where
-  pub turn_taken : (ts : List Turn) {r : Next} {t : Turn} {w : Walk} (after : List ℕ) → r ≡ next.TheVariants.Turn t w → Advances depths left ts r after
-      → (ts ≡ t ∷ turns_left depths (flagged left) w after) × Fits depths (length after) w
-  turn_taken ts after e a = subst (λ (x : Next). Advances depths left ts x after) e a
-
-  pub no_turn : (ts : List Turn) {r : Next} (after : List ℕ) → r ≡ next.TheVariants.Done → Advances depths left ts r after → ts ≡ []
-  no_turn ts after e a = subst (λ (x : Next). Advances depths left ts x after) e a

@@ -1,8 +1,8 @@
 -- The lengths of class and id, attribute line by attribute line from the last one, and the longest of them, row by row.
+use Rattle.std.specs.Prelude.{Option, unwrap_or}
 use mathlib.Core.Path.{◌≡◌, refl, sym, ap, ◌∙◌}
 use mathlib.Core.Bool.{cond}
 use mathlib.Core.List.{List, [], ◌∷◌}
-use mathlib.Core.Option.{Option, get_or}
 use Prim.Native.Nat.{ℕ, suc, ◌+◌, ◌-◌, ◌≤◌, ◌<◌}
 use native.Mathlib.Omega.{arith}
 use native.Mathlib.Numerals.{add-one}
@@ -27,7 +27,7 @@ use Rattle.walk.specs.Names.{length_in, class_and_id}
 
 length_cons : (a : Attribute) (others : List Attribute) (name : Bytes) → length_in (a ∷ others) name ≡ cond (same a.name name) (length a.value) (length_in others name)
 length_cons a others name =
-    let value : Option Bytes → ℕ = λ v. length (get_or v []) in
+    let value : Option Bytes → ℕ = λ v. length (unwrap_or v []) in
     by_test (same a.name name)
     (λ e. rw e (ap value (attribute_cons_here a others name e)))
     (λ e. rw e (ap value (attribute_cons_next a others name e)))

@@ -1,4 +1,5 @@
 -- What is noted of the rows, row by row; the column of depths that is noted is the sheet's.
+use Rattle.std.specs.Prelude.{Some, None}
 use mathlib.Core.Path.{◌≡◌, refl, sym, ap, ◌∙◌}
 use mathlib.Core.Bool.{Bool, false, ◌||◌}
 use mathlib.Core.List.{List, []}
@@ -16,7 +17,6 @@ use Rattle.sheet.specs.Layout.{header_length, node_length, pool_start, most_dept
 use Rattle.sheet.specs.Notes.{Sized, row_in, rest_right}
 use Rattle.sheet.specs.Verdict.{counts_from, judged, is_sheet}
 use Rattle.sheet.specs.declared.line.Layout.{Layout}
-use Rattle.sheet.specs.declared.line.NodeLine
 use Rattle.sheet.specs.declared.line.Row.{Row}
 use Rattle.sheet.proofs.Accepting.{RowIn, RowFacts, Rows, row_in_numbers, row_in_bad, not_accepted, rows_start, rows_bad, rows_wrong, row_is, row_facts, rows_more, rows_end}
 use Rattle.sheet.proofs.Header.{lines_small}
@@ -167,12 +167,12 @@ module _ {s : Bytes} {l : Layout} {ds₀ ts₀ fs₀ vs₀ ls₀ ds ts fs vs ls 
     pub taking_small : Sized s l → at + node_length l.width ≤ 5000000
     taking_small sized = omega (arith, g.rows.place, lines_small l.width i sized.width (omega (arith, sized.nodes)), sized.width)
 
-    pub taking_bad : Sized s l → row_in s l i before at first ≡ NodeLine.TheVariants.Bad → false ≡ is_sheet (judged s l)
+    pub taking_bad : Sized s l → row_in s l i before at first ≡ None → false ≡ is_sheet (judged s l)
     taking_bad sized e =
         row_in_bad s l i before at first e (rows_bad s l g.rows h) (λ r n w. rows_wrong s l g.rows h n w)
         (λ r n w m. not_accepted s l sized (λ a. omega (arith, m, g.reading.first_is, counts_fit s l a i h (row_is s l g.rows h n))))
 
-    module _ {r : Row} (e : row_in s l i before at first ≡ NodeLine.TheVariants.Numbers r) where
+    module _ {r : Row} (e : row_in s l i before at first ≡ Some r) where
       row : RowIn s l i before at first r
       row = row_in_numbers s l i before at first e
 

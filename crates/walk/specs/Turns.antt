@@ -1,5 +1,5 @@
 -- The passes of the walk's loop over the tree, and what is left of them where the walk stands.
-use Rattle.std.specs.Prelude.{◌≡◌, Bool, true, false, cond, List, [], ◌∷◌, ◌++◌, ℕ, suc, ◌+◌, ◌≤◌, ◌<◌, length, get_or}
+use Rattle.std.specs.Prelude.{◌≡◌, Bool, true, false, cond, List, [], ◌∷◌, ◌++◌, ℕ, suc, ◌+◌, ◌≤◌, ◌<◌, length, get_or, Option, None, Some}
 use Rattle.tree.specs.Forest.{Forest, empty, node, has_trees}
 use Rattle.tree.specs.Node.{Node}
 use Rattle.tree.specs.Rows.{WellFormed, children_of, forest_from, open_rows}
@@ -9,8 +9,6 @@ use Rattle.walk.specs.declared.cursor.Turn.{Turn}
 use Rattle.walk.specs.declared.cursor.Turn.TheVariants.{Begin, End, LeftOut}
 use Rattle.walk.specs.declared.cursor.Walk.{Walk}
 use Rattle.walk.specs.declared.cursor.Walk.TheVariants.{Root, Below}
-use Rattle.walk.specs.declared.cursor.Next.{Next}
-use Rattle.walk.specs.declared.cursor.Next as next
 
 -- a row and what is below it
 abbrev pub tree_at : List ℕ → ℕ → Forest ℕ
@@ -73,7 +71,6 @@ Fits depths room (Root i) = i < length depths
 Fits depths room (Below base k n) = base + n ≤ room
 
 -- a pass is the first of those that are left, `ts`, and the others are left after it; or none is left
-abbrev pub Advances : List ℕ → List Bool → List Turn → Next → List ℕ → Type 0
-Advances depths left ts (next.TheVariants.Turn t w) stack =
-    (ts ≡ t ∷ turns_left depths (flagged left) w stack) × Fits depths (length stack) w
-Advances depths left ts next.TheVariants.Done stack = ts ≡ []
+abbrev pub Advances : List ℕ → List Bool → List Turn → Option (Turn × Walk) → List ℕ → Type 0
+Advances depths left ts (Some p) stack = (ts ≡ p.0 ∷ turns_left depths (flagged left) p.1 stack) × Fits depths (length stack) p.1
+Advances depths left ts None stack = ts ≡ []

@@ -11,16 +11,12 @@ ghost use Rattle.walk.specs.Names.{class_and_id};
 
 use sheet::line::{Layout, Row};
 use sheet::read::{attribute_at, part, row_at};
-use writer::greater;
 
 // The length of an attribute's value where it has that name.
 fn length_if(name: &[u8], word: &[u8], len: usize, other: usize) -> usize
     ensures { result ≡ cond (same name.now word.now) len other }
 {
-    if common::same(name, word) {
-        return len;
-    }
-    other
+    if common::same(name, word) { len } else { other }
 }
 
 // Of count attribute lines from line from on, class length + 1 + id length; an absent one reads as empty. From the last line to the first,
@@ -31,13 +27,11 @@ fn class_and_id(s: &[u8], l: Layout, from: usize, count: usize) -> usize
 {
     let mut class = 0;
     let mut id = 0;
-    let mut n = count;
-    while n > 0 {
-        let a = attribute_at(s, l, from + (n - 1));
+    for n in (0..count).rev() {
+        let a = attribute_at(s, l, from + n);
         let name = part(s, l, a.name_at, a.name_len);
         class = length_if(name, b"class", a.value_len, class);
         id = length_if(name, b"id", a.value_len, id);
-        n -= 1;
     }
     class + 1 + id
 }
@@ -48,9 +42,10 @@ fn names_len(s: &[u8], l: Layout, first: usize, r: Row) -> usize
     ensures { (i : ℕ) → r ≡ row_at s.now l i → first ≡ counts_from s.now l 0 i → result ≡ names_length (node_at s.now l i) }
 {
     if r.kind == 1 {
-        return class_and_id(s, l, first, r.attributes);
+        class_and_id(s, l, first, r.attributes)
+    } else {
+        0
     }
-    0
 }
 
 // "the longest class length + 1 + id length of any element row"
@@ -58,15 +53,12 @@ pub fn longest_names(s: &[u8], l: Layout) -> usize
     requires { Accepted s.now l }
     ensures { result ≡ longest_names (node_at s.now l) l.nodes }
 {
-    let nodes = l.nodes;
-    let mut longest = 0;
+    let mut longest: usize = 0;
     let mut first = 0;
-    let mut i = 0;
-    while i < nodes {
+    for i in 0..l.nodes {
         let r = row_at(s, l, i);
-        longest = greater(longest, names_len(s, l, first, r));
+        longest = longest.max(names_len(s, l, first, r));
         first += r.attributes;
-        i += 1;
     }
     longest
 }

@@ -8,7 +8,7 @@ ghost use Rattle.tree.specs.Node.{tag};
 ghost use Rattle.tree.specs.Page.{node_at};
 ghost use Rattle.walk.specs.Rows.{Columns, RowsRead};
 
-use sheet::line::{Layout, NodeLine, Row};
+use sheet::line::{Layout, Row};
 use sheet::rows::row_in;
 use sheet::verdict::rest_right;
 
@@ -20,19 +20,17 @@ fn tag_in(s: &[u8], l: Layout, start: usize, r: Row) -> u8
     if r.kind == 1 {
         let from = start + r.name_at;
         let to = from + r.name_len;
-        return tags::tag_of(&s[from..to]);
+        tags::tag_of(&s[from..to])
+    } else {
+        tags::OTHER
     }
-    tags::OTHER
 }
 
 // Whether a row is a comment or marked.
 fn comment_or_marked(r: Row) -> bool
     ensures { result ≡ (eqb r.kind 8 || eqb r.skip 1) }
 {
-    if r.kind == 8 {
-        return true;
-    }
-    r.skip == 1
+    r.kind == 8 || r.skip == 1
 }
 
 // Whether a sheet is accepted, by one look at its rows; and of each row its depth, the number of its tag, its first attribute line, where its
@@ -54,7 +52,6 @@ pub fn take_rows(
     ensures rows { result ≡ true → RowsRead s.now l l.nodes depths.new tags.new attributes.new values.new lengths.new left.new }
 {
     let width = l.width;
-    let nodes = l.nodes;
     let start = s.len() - l.pool;
     let step = 8 * width + 1;
     let mut before = Row {
@@ -69,9 +66,8 @@ pub fn take_rows(
     };
     let mut at = 4 * width + 1;
     let mut first = 0;
-    let mut i = 0;
-    while i < nodes {
-        let NodeLine::Numbers(r) = row_in(s, l, start, whole, i, before, at, first) else {
+    for i in 0..l.nodes {
+        let Some(r) = row_in(s, l, start, whole, i, before, at, first) else {
             return false;
         };
         depths[i] = r.depth as u16;
@@ -83,7 +79,6 @@ pub fn take_rows(
         before = r;
         at += step;
         first += r.attributes;
-        i += 1;
     }
     rest_right(s, l, whole, first)
 }

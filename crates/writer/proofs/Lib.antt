@@ -8,5 +8,6 @@ pub mod PlacesLaws
 pub mod PlainLaws
 pub mod PutLaws
 pub mod ShownLaws
+pub mod StoredLaws
 pub mod TimesLaws
 pub mod WordsLaws

@@ -3,6 +3,7 @@ use mathlib.Core.Path.{◌≡◌, refl, sym, ap, subst, ◌∙◌}
 use mathlib.Core.Bool.{Bool, true, false, cond}
 use mathlib.Core.List.{[], ◌∷◌, ◌++◌, append-nil}
 use Prim.Native.Nat.{ℕ, suc, ◌+◌, ◌-◌, ◌/◌, ◌%◌, ◌≤◌, ◌<◌}
+use native.Mathlib.Numerals.{add-one}
 use native.Mathlib.Omega.{arith}
 use lib.Dec.{eqb}
 use lib.ListN.{length, take, drop, get_or, length-drop, take-append-drop}
@@ -39,31 +40,27 @@ module _ (left rest : ℕ) (s : Bytes) (i : ℕ) (h : 0 < left) (e : octets left
   left_next : octets (left - 1) (rest / 256) ≡ drop (suc i) s
   left_next = ap (drop 1) cut
 
-module _ (word left rest : ℕ) (h : 0 < left) (k : left ≤ 8) (e : octets left rest ≡ drop (8 - left) (octets 8 word)) where
+module _ (word i rest : ℕ) (h : i < 8) (e : octets (8 - i) rest ≡ drop i (octets 8 word)) where
   abbrev s : Bytes
   s = octets 8 word
 
-  one_less : 8 - left + 1 ≡ 8 - (left - 1)
-  one_less = omega arith
+  more : 0 < 8 - i
+  more = omega arith
 
-  pub rest_next : octets (left - 1) (rest / 256) ≡ drop (8 - (left - 1)) s
-  rest_next =
-      let n : suc (8 - left) ≡ 8 - (left - 1) = omega arith in
-      left_next left rest s (8 - left) h e ∙ ap (λ (j : ℕ). drop j s) n
+  pub rest_next : octets (8 - (i + 1)) (rest / 256) ≡ drop (i + 1) s
+  rest_next = let n : 8 - (i + 1) ≡ 8 - i - 1 = omega arith in rw (n, add-one) (left_next (8 - i) rest s i more e)
 
   module _ {write squeeze space : Bool} {times : ℕ} {buf out : Bytes} {at kept : ℕ} {r : Places}
-      (p : PutsPart write squeeze space times buf at kept (take (8 - left) s) out r) where
+      (p : PutsPart write squeeze space times buf at kept (take i s) out r) where
     pub octet_room : RoomAt write buf at (shown_times squeeze space times s)
         → RoomAt write out r.past (shown_times squeeze r.space times (rest % 256 ∷ []))
-    octet_room room = part_room s (8 - left) (left_within left rest s (8 - left) h e) p room (left_byte left rest s (8 - left) h e)
+    octet_room room = part_room s i (left_within (8 - i) rest s i more e) p room (left_byte (8 - i) rest s i more e)
 
     pub octet_next : {blank : Bool} {out' : Bytes} {past behind read : ℕ} → blank ≡ is_space (rest % 256)
         → StoredAt write out r.past (shown_times squeeze r.space times (rest % 256 ∷ [])) out' past
         → behind ≡ cond blank r.kept past → read ≡ r.read + 1
-        → PutsPart write squeeze space times buf at kept (take (8 - (left - 1)) s) out' (places past behind blank read)
-    octet_next {blank} {out'} {past} {behind} {read} b d m l =
-        subst (λ (j : ℕ). PutsPart write squeeze space times buf at kept (take j s) out' (places past behind blank read)) one_less
-        (part_next s (8 - left) (left_within left rest s (8 - left) h e) p (left_byte left rest s (8 - left) h e) b d m l)
+        → PutsPart write squeeze space times buf at kept (take (i + 1) s) out' (places past behind blank read)
+    octet_next b d m l = part_next s i (left_within (8 - i) rest s i more e) p (left_byte (8 - i) rest s i more e) b d m l
 
 -- ---- eight bytes that are shown as they are
 

@@ -2,9 +2,8 @@
 #![tactic(auto)]
 
 ghost use Rattle.std.specs.Prelude.{true, [], ◌∷◌, ◌≡◌, ◌+◌, ◌≤◌, ◌<◌, length, replicate};
-ghost use Rattle.common.specs.Puts.{Puts};
 ghost use Rattle.writer.specs.Digits.{digits};
-ghost use Rattle.writer.specs.Out.{greater, push_all};
+ghost use Rattle.writer.specs.Out.{push_all};
 ghost use Rattle.writer.specs.Writing.{Does, Ready, grown, stored, trimmed};
 
 mod reading;
@@ -19,33 +18,74 @@ pub struct Writer {
     pub peak: usize,
 }
 
-pub fn greater(a: usize, b: usize) -> usize
-    ensures { result ≡ greater a b }
-{
-    if a < b {
-        return b;
-    }
-    a
-}
+impl Writer {
+    // No text yet.
+    pub const START: Writer = Writer {
+        len: 0,
+        kept: 0,
+        peak: 0,
+    };
 
-// The numbers after n bytes more, of which k are left without the blanks at their end.
-pub fn grown(w: Writer, n: usize, k: usize) -> Writer
-    requires { (w.len + n < 9223372036854775808) × (k ≤ n) }
-    ensures { result ≡ grown w n k }
-{
-    let len = w.len + n;
-    let peak = greater(w.peak, len);
-    if k == 0 {
-        return Writer {
+    // The numbers after n bytes more, of which k are left without the blanks at their end.
+    pub fn grown(self, n: usize, k: usize) -> Writer
+        requires { (self.len + n < 9223372036854775808) × (k ≤ n) }
+        ensures { result ≡ grown self n k }
+    {
+        let len = self.len + n;
+        Writer {
             len,
-            kept: w.kept,
-            peak,
-        };
+            kept: if k == 0 { self.kept } else { self.len + k },
+            peak: self.peak.max(len),
+        }
     }
-    Writer {
-        len,
-        kept: w.len + k,
-        peak,
+
+    // One byte.
+    pub fn push(self, b: u8, out: &mut [u8], write: bool) -> Writer
+        requires { Ready write self out.old (push_all (b ∷ [])) }
+        ensures { Does write self out.old result out.new (push_all (b ∷ [])) }
+    {
+        store_byte(out, self.len, b, write);
+        self.grown(1, if text::is_space(b) { 0 } else { 1 })
+    }
+
+    // A run of bytes.
+    pub fn put(self, word: &[u8], out: &mut [u8], write: bool) -> Writer
+        requires { Ready write self out.old (push_all word.now) }
+        ensures { Does write self out.old result out.new (push_all word.now) }
+    {
+        store(out, self.len, word, write);
+        self.grown(word.len(), text::rstrip(word))
+    }
+
+    // Copies of one byte.
+    pub fn pad(self, b: u8, times: usize, out: &mut [u8], write: bool) -> Writer
+        requires { Ready write self out.old (push_all (replicate times b)) }
+        ensures { Does write self out.old result out.new (push_all (replicate times b)) }
+    {
+        store_copies(out, self.len, b, times, write);
+        self.grown(times, if text::is_space(b) { 0 } else { times })
+    }
+
+    // The blanks at the end away.
+    pub fn trim_end(self) -> Writer
+        ensures { result ≡ trimmed self }
+    {
+        Writer {
+            len: self.kept,
+            ..self
+        }
+    }
+
+    // A number in decimal.
+    pub fn put_number(self, n: usize, out: &mut [u8], write: bool) -> Writer
+        requires { Ready write self out.old (push_all (digits n)) }
+        ensures { Does write self out.old result out.new (push_all (digits n)) }
+    {
+        if n < 10 {
+            return self.push(b'0' + n as u8, out, write);
+        }
+        let q = self.put_number(n / 10, out, write);
+        q.push(b'0' + (n % 10) as u8, out, write)
     }
 }
 
@@ -55,7 +95,6 @@ pub fn store_byte(out: &mut [u8], at: usize, b: u8, write: bool)
 {
     if write {
         out[at] = b;
-        return;
     }
 }
 
@@ -65,23 +104,7 @@ pub fn store(out: &mut [u8], at: usize, word: &[u8], write: bool)
 {
     if write {
         common::put(out, at, word);
-        return;
     }
-}
-
-// Copies of b to at and on; the place past them.
-fn fill(out: &mut [u8], at: usize, b: u8, times: usize) -> usize
-    requires { at + times ≤ length out.old }
-    ensures { Puts out.old at (replicate times b) out.new result }
-{
-    let mut here = at;
-    let mut left = times;
-    while 0 < left {
-        out[here] = b;
-        here += 1;
-        left -= 1;
-    }
-    here
 }
 
 fn store_copies(out: &mut [u8], at: usize, b: u8, times: usize, write: bool)
@@ -89,63 +112,6 @@ fn store_copies(out: &mut [u8], at: usize, b: u8, times: usize, write: bool)
     ensures { out.new ≡ stored write out.old at (replicate times b) }
 {
     if write {
-        fill(out, at, b, times);
-        return;
+        out[at..at + times].fill(b);
     }
-}
-
-// One byte.
-pub fn push(w: Writer, b: u8, out: &mut [u8], write: bool) -> Writer
-    requires { Ready write w out.old (push_all (b ∷ [])) }
-    ensures { Does write w out.old result out.new (push_all (b ∷ [])) }
-{
-    store_byte(out, w.len, b, write);
-    if text::is_space(b) {
-        return grown(w, 1, 0);
-    }
-    grown(w, 1, 1)
-}
-
-// A run of bytes.
-pub fn put(w: Writer, word: &[u8], out: &mut [u8], write: bool) -> Writer
-    requires { Ready write w out.old (push_all word.now) }
-    ensures { Does write w out.old result out.new (push_all word.now) }
-{
-    store(out, w.len, word, write);
-    grown(w, word.len(), text::rstrip(word))
-}
-
-// Copies of one byte.
-pub fn pad(w: Writer, b: u8, times: usize, out: &mut [u8], write: bool) -> Writer
-    requires { Ready write w out.old (push_all (replicate times b)) }
-    ensures { Does write w out.old result out.new (push_all (replicate times b)) }
-{
-    store_copies(out, w.len, b, times, write);
-    if text::is_space(b) {
-        return grown(w, times, 0);
-    }
-    grown(w, times, times)
-}
-
-// The blanks at the end away.
-pub fn trim_end(w: Writer) -> Writer
-    ensures { result ≡ trimmed w }
-{
-    Writer {
-        len: w.kept,
-        kept: w.kept,
-        peak: w.peak,
-    }
-}
-
-// A number in decimal.
-pub fn put_number(w: Writer, n: usize, out: &mut [u8], write: bool) -> Writer
-    requires { Ready write w out.old (push_all (digits n)) }
-    ensures { Does write w out.old result out.new (push_all (digits n)) }
-{
-    if n < 10 {
-        return push(w, 48 + n as u8, out, write);
-    }
-    let q = put_number(w, n / 10, out, write);
-    push(q, 48 + (n % 10) as u8, out, write)
 }

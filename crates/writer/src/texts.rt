@@ -7,9 +7,9 @@ ghost use Rattle.writer.specs.Shown.{escaped_times, is_escaped, shown_times};
 ghost use Rattle.writer.specs.Texts.{BeginsAt, PutsPart, PutsPlain, PutsRead, PutsText};
 ghost use Rattle.writer.specs.Writing.{Ready, RoomAt, StoredAt, stored};
 
+use crate::Writer;
 use crate::reading::{byte_at, word_at};
 use crate::words::{is_plain, last_byte, store_word};
-use crate::{Writer, greater};
 
 // Along a text: the place past it, the place past the last of it that is no blank, whether a blank was read last, and how many bytes were.
 #[derive(Clone, Copy)]
@@ -20,7 +20,8 @@ pub struct Places {
     pub read: usize,
 }
 
-// The first byte that is shown, where it stands, and how many bytes were read up to it. at: the text's length where none is.
+// The first byte that is shown, where it stands, and how many bytes were read up to it. at: the text's length where none is; an `Option`
+// would lose how many were read there.
 #[derive(Clone, Copy)]
 pub struct First {
     pub at: usize,
@@ -41,43 +42,35 @@ pub fn first_of(s: &[u8], trim: bool) -> First
     ensures { BeginsAt trim s.now result }
 {
     let mut read = 0;
-    let mut i = 0;
-    while i < s.len() {
+    for i in 0..s.len() {
         let b = byte_at(s, i, read);
-        if !is_trimmed(b.byte, trim) {
+        if !is_trimmed(b.value, trim) {
             return First {
                 at: i,
                 read: b.read,
-                byte: b.byte,
+                byte: b.value,
             };
         }
         read = b.read;
-        i += 1;
     }
     First {
-        at: i,
+        at: s.len(),
         read,
-        byte: 32,
+        byte: b' ',
     }
 }
 
 fn is_trimmed(b: u8, trim: bool) -> bool
     ensures { result ≡ (trim && is_space b) }
 {
-    if trim {
-        return text::is_space(b);
-    }
-    false
+    trim && text::is_space(b)
 }
 
 // Whether a byte becomes another text where it is escaped so often.
 fn is_escaped(b: u8, times: u8) -> bool
     ensures { result ≡ is_escaped times b }
 {
-    if times == 0 {
-        return false;
-    }
-    text::entity_len(b) != 1
+    times != 0 && text::entity_len(b) != 1
 }
 
 // One byte as it is; the place past it.
@@ -115,10 +108,10 @@ fn put_twice(out: &mut [u8], past: usize, b: u8, write: bool) -> usize
     ensures { StoredAt write out.old past (escape (escaped b)) out.new result }
 {
     match b {
-        38 => put_run(out, past, b"&amp;amp;", write),
-        34 => put_run(out, past, b"&amp;quot;", write),
-        60 => put_run(out, past, b"&amp;lt;", write),
-        62 => put_run(out, past, b"&amp;gt;", write),
+        b'&' => put_run(out, past, b"&amp;amp;", write),
+        b'"' => put_run(out, past, b"&amp;quot;", write),
+        b'<' => put_run(out, past, b"&amp;lt;", write),
+        b'>' => put_run(out, past, b"&amp;gt;", write),
         _ => put_one(out, past, b, write),
     }
 }
@@ -149,30 +142,19 @@ fn put_shown(out: &mut [u8], past: usize, b: u8, times: u8, write: bool) -> usiz
 fn squeezed(b: u8, blank: bool, squeeze: bool) -> u8
     ensures { result ≡ cond (squeeze && blank) 32 b }
 {
-    if squeeze {
-        if blank {
-            return 32;
-        }
-        return b;
-    }
-    b
+    if squeeze && blank { b' ' } else { b }
 }
 
 // Whether a blank is dropped: one stood before it.
 fn is_dropped(squeeze: bool, blank: bool, space: bool) -> bool
     ensures { result ≡ (squeeze && (blank && space)) }
 {
-    if squeeze {
-        if blank {
-            return space;
-        }
-        return false;
-    }
-    false
+    squeeze && (blank && space)
 }
 
 // A byte of a text, by whether it is a blank and whether one stood before it. What `put_shown` does stands here once more, since a byte
-// that is escaped is rare and takes a call.
+// that is escaped is rare and takes a call. Here and below `squeeze`, `times` and `write` are three: a struct of them goes by its address
+// and is read again behind each byte that is stored, which made texts 6 of 100 slower.
 fn put_byte(
     out: &mut [u8],
     past: usize,
@@ -199,10 +181,7 @@ fn put_byte(
 fn kept_after(kept: usize, past: usize, blank: bool) -> usize
     ensures { result ≡ cond blank kept past }
 {
-    if blank {
-        return kept;
-    }
-    past
+    if blank { kept } else { past }
 }
 
 // A text, byte by byte.
@@ -223,15 +202,13 @@ fn put_bytes(
     let mut behind = kept;
     let mut last = space;
     let mut read = 0;
-    let mut i = 0;
-    while i < s.len() {
+    for i in 0..s.len() {
         let b = byte_at(s, i, read);
-        let blank = text::is_space(b.byte);
-        past = put_byte(out, past, b.byte, blank, squeeze, last, times, write);
+        let blank = text::is_space(b.value);
+        past = put_byte(out, past, b.value, blank, squeeze, last, times, write);
         behind = kept_after(behind, past, blank);
         last = blank;
         read = b.read;
-        i += 1;
     }
     Places {
         past,
@@ -241,7 +218,7 @@ fn put_bytes(
     }
 }
 
-// Eight bytes in hand, one by one; `read` bytes were read with them.
+// Eight bytes in hand, one by one; `read` bytes were read with them. `put_bytes` of `word.to_le_bytes()` made texts 12 of 100 slower.
 fn put_octets(
     out: &mut [u8],
     at: usize,
@@ -260,15 +237,13 @@ fn put_octets(
     let mut behind = kept;
     let mut last = space;
     let mut rest = word;
-    let mut left: usize = 8;
-    while 0 < left {
+    for _ in 0..8u8 {
         let b = (rest % 256) as u8;
         let blank = text::is_space(b);
         past = put_byte(out, past, b, blank, squeeze, last, times, write);
         behind = kept_after(behind, past, blank);
         last = blank;
         rest = rest / 256;
-        left -= 1;
     }
     Places {
         past,
@@ -285,7 +260,6 @@ pub fn store_octets(out: &mut [u8], at: usize, word: usize, write: bool)
 {
     if write {
         store_word(out, at, word);
-        return;
     }
 }
 
@@ -295,18 +269,11 @@ fn put_plain(out: &mut [u8], at: usize, word: usize, read: usize, write: bool) -
     ensures { PutsPlain write out.old at word read out.new result }
 {
     store_octets(out, at, word, write);
-    if last_byte(word) == 32 {
-        return Places {
-            past: at + 8,
-            kept: at + 7,
-            space: true,
-            read,
-        };
-    }
+    let space = last_byte(word) == b' ';
     Places {
         past: at + 8,
-        kept: at + 8,
-        space: false,
+        kept: at + if space { 7 } else { 8 },
+        space,
         read,
     }
 }
@@ -354,7 +321,7 @@ fn put_words(
     while i < s.len() {
         let b = word_at(s, i, read);
         let r = put_word(
-            out, past, behind, b.word, b.read, squeeze, last, times, write,
+            out, past, behind, b.value, b.read, squeeze, last, times, write,
         );
         past = r.past;
         behind = r.kept;
@@ -391,55 +358,49 @@ fn put_rest(
     let a = put_words(out, at, kept, &s[..n], squeeze, space, times, write);
     let b = put_bytes(out, a.past, a.kept, &s[n..], squeeze, a.space, times, write);
     Places {
-        past: b.past,
-        kept: b.kept,
-        space: b.space,
         read: a.read + b.read,
+        ..b
     }
 }
 
-// A text from its first byte on, which is in hand.
-pub fn put_text(
-    w: Writer,
-    s: &[u8],
-    first: First,
-    squeeze: bool,
-    times: u8,
-    out: &mut [u8],
-    write: bool,
-) -> Put
-    requires at_in_bounds { (first.at < length s.now) × (first.byte ≡ get_or s.now first.at 0) × (first.read ≤ first.at + 1) }
-    requires ready { Ready write w out.old (push_all (shown_times squeeze false times (drop first.at s.now))) }
-    ensures { PutsText write squeeze times w out.old s.now first result out.new }
-{
-    let blank = text::is_space(first.byte);
-    let past = put_shown(
-        out,
-        w.len,
-        squeezed(first.byte, blank, squeeze),
-        times,
-        write,
-    );
-    let kept = kept_after(w.kept, past, blank);
-    let r = put_rest(
-        out,
-        past,
-        kept,
-        &s[first.at + 1..],
-        squeeze,
-        blank,
-        times,
-        write,
-    );
-    let peak = greater(w.peak, r.past);
-    let writer = Writer {
-        len: r.past,
-        kept: r.kept,
-        peak,
-    };
-    Put {
-        writer,
-        read: first.read + r.read,
-        space: r.space,
+impl Writer {
+    // A text from its first byte on, which is in hand.
+    pub fn put_text(
+        self,
+        s: &[u8],
+        first: First,
+        squeeze: bool,
+        times: u8,
+        out: &mut [u8],
+        write: bool,
+    ) -> Put
+        requires at_in_bounds { (first.at < length s.now) × (first.byte ≡ get_or s.now first.at 0) × (first.read ≤ first.at + 1) }
+        requires ready { Ready write self out.old (push_all (shown_times squeeze false times (drop first.at s.now))) }
+        ensures { PutsText write squeeze times self out.old s.now first result out.new }
+    {
+        let blank = text::is_space(first.byte);
+        let shown = squeezed(first.byte, blank, squeeze);
+        let past = put_shown(out, self.len, shown, times, write);
+        let kept = kept_after(self.kept, past, blank);
+        let r = put_rest(
+            out,
+            past,
+            kept,
+            &s[first.at + 1..],
+            squeeze,
+            blank,
+            times,
+            write,
+        );
+        let writer = Writer {
+            len: r.past,
+            kept: r.kept,
+            peak: self.peak.max(r.past),
+        };
+        Put {
+            writer,
+            read: first.read + r.read,
+            space: r.space,
+        }
     }
 }

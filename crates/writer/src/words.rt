@@ -46,10 +46,7 @@ pub fn last_byte(w: usize) -> u8
 fn first_mark(marks: usize, space: bool) -> usize
     ensures { result ≡ cond space (marks % 256) 0 }
 {
-    if space {
-        return marks % 256;
-    }
-    0
+    if space { marks % 256 } else { 0 }
 }
 
 // Whether every blank is U+0020 and none stands behind another, with one before them where `space`: one test, since which of them fails is
@@ -65,29 +62,18 @@ pub fn is_squeezed(w: usize, space: bool) -> bool
 pub fn is_plain(w: usize, squeeze: bool, space: bool, times: u8) -> bool
     ensures { result ≡ true → Plain squeeze space times w }
 {
-    if squeeze {
-        if !is_squeezed(w, space) {
-            return false;
-        }
-        return times == 0 || is_bare(w);
-    }
-    if text::is_space(last_byte(w)) {
-        return false;
-    }
-    times == 0 || is_bare(w)
+    let blanks_stay = if squeeze {
+        is_squeezed(w, space)
+    } else {
+        !text::is_space(last_byte(w))
+    };
+    blanks_stay && (times == 0 || is_bare(w))
 }
 
-// The eight bytes to at and on. In this form LLVM makes one store of it.
+// The eight bytes to at and on. LLVM makes one store of it.
 pub fn store_word(out: &mut [u8], at: usize, w: usize)
     requires { at + 8 ≤ length out.old }
     ensures { out.new ≡ sets out.old at (octets 8 w) }
 {
-    out[at] = (w % 256) as u8;
-    out[at + 1] = (w / 0x100 % 256) as u8;
-    out[at + 2] = (w / 0x10000 % 256) as u8;
-    out[at + 3] = (w / 0x1000000 % 256) as u8;
-    out[at + 4] = (w / 0x100000000 % 256) as u8;
-    out[at + 5] = (w / 0x10000000000 % 256) as u8;
-    out[at + 6] = (w / 0x1000000000000 % 256) as u8;
-    out[at + 7] = (w / 0x100000000000000) as u8;
+    out[at..at + 8].copy_from_slice(&w.to_le_bytes());
 }

@@ -7,7 +7,7 @@ use native.Mathlib.Omega.{arith}
 use lib.Dec.{leb}
 use lib.ListN.{length, get_or}
 use lib.Seq.{get_or-take}
-use borrow.Author.Tests.{leb-false, ne_eqb}
+use borrow.Author.Tests.{leb-false}
 use Rattle.common.specs.Bytes.{Bytes, length_limit}
 use Rattle.options.specs.Options.{is_off}
 use Rattle.options.specs.declared.ExtractOptions.{ExtractOptions}
@@ -40,25 +40,6 @@ row_left tr end k e t f = leb-false most_open_rows k (rw (t, f) at e)
 
 level_left : (off end changes : Bool) (k : ℕ) → (not off && (not end && (changes && leb most_levels k))) ≡ false → off ≡ false → changes ≡ true → end ≡ false → k < most_levels
 level_left off end changes k e a b c = leb-false most_levels k (rw (a, b, c) at e)
-
--- the test of list levels, where the ones before it hold
-module _ {off end changes : Bool} (is_on : off ≡ false) (begins : end ≡ false) where
-  pub level_tested : (l : Bool) → changes ≡ true → l ≡ (not off && (not end && (changes && l)))
-  level_tested l c = rw (is_on, begins, c)
-
-  pub level_same : (l : Bool) → changes ≡ false → false ≡ (not off && (not end && (changes && l)))
-  level_same l c = rw (is_on, begins, c)
-
--- the test of rows
-module _ (v : Visit) (rows : ℕ) where
-  pub row_tested : v.tag ≡ 1 → v.end ≡ false → leb most_open_rows rows ≡ rows_pass_at v rows
-  row_tested e b = rw (e, b)
-
-  pub row_ended : v.tag ≡ 1 → v.end ≡ true → false ≡ rows_pass_at v rows
-  row_ended e b = rw (e, b)
-
-  pub row_other : (v.tag ≡ 1 → ⊥) → false ≡ rows_pass_at v rows
-  row_other e = rw (ne_eqb v.tag 1 e)
 
 -- the entry that a visit opens, by its numbers
 abbrev pub node_after : ExtractOptions → OpenEntry → Visit → ExtractNode

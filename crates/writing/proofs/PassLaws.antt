@@ -1,4 +1,5 @@
 -- Along the whole pass: the walk stands at what is left of the events, and the pass for the run before them.
+use Rattle.std.specs.Prelude.{Option, None, Some}
 use mathlib.Core.Path.{◌≡◌, refl, sym, ap, ◌∙◌}
 use mathlib.Core.Bool.{Bool, true, false, ◌&&◌, not, not-not}
 use mathlib.Core.List.{List, [], ◌∷◌}
@@ -40,9 +41,7 @@ use Rattle.walk.specs.Turns.{events_of}
 use Rattle.walk.specs.declared.cursor.Walk.{Walk}
 use Rattle.walk.specs.declared.cursor.Walk.TheVariants.{Root}
 use Rattle.visits.specs.Visiting.{Walked, run_of, events_in, passes_of, passes_left, events_left, Sees}
-use Rattle.visits.specs.declared.Seen.{Seen}
-use Rattle.visits.specs.declared.Seen as seen
-use Rattle.visits.proofs.Walking.{Walking, visit_seen, left_out_seen, done_seen, walking_start, walking_visit, walking_left_out, walking_end}
+use Rattle.visits.proofs.Walking.{Walking, seen, walking_start, walking_on, walking_end}
 use Rattle.writing.specs.Passing.{no_pass, depth_passes_at, rows_pass_at, Passes, Levelled, OpenReady, Opens, PassReady, PassDoes, WriteReady, TextPassed, PassRefused}
 use Rattle.writing.specs.declared.OpenEntry.{OpenEntry}
 use Rattle.writing.proofs.BeginLaws.{pushes_is, levels_begun, rows_begun, run_begun, open_none}
@@ -154,11 +153,11 @@ module _ {o : ExtractOptions} {s : Bytes} {l : Layout} {left : List Bool} where
 
   module _
       {write : Bool} {under : Bytes} {room : ℕ} {stack : List ℕ} {a : Lent} {w : Walk} {visits : ℕ} {p : OpenEntry} (h : Passing o s l left write under room stack a w visits p)
-      {r : Seen} (after : List ℕ) (saw : Sees s l left (passes_left s l left w stack) r after) where
+      {r : Option (Option Visit × Walk)} (after : List ℕ) (saw : Sees s l left (passes_left s l left w stack) r after) where
     -- a visit
-    module _ {v : Visit} {x : Walk} (e : r ≡ seen.TheVariants.Visit v x) where
-      visited : Sees s l left (passes_left s l left w stack) (seen.TheVariants.Visit v x) after
-      visited = visit_seen s l left (passes_left s l left w stack) after saw e
+    module _ {v : Visit} {x : Walk} (e : r ≡ Some (Some v, x)) where
+      visited : Sees s l left (passes_left s l left w stack) (Some (Some v, x)) after
+      visited = seen s l left (passes_left s l left w stack) after saw e
 
       here : Along o (run_of s l o left) (event_of s l v ∷ events_left s l left x after) h.fused
       here = rw visited.1 at h.along
@@ -259,7 +258,7 @@ module _ {o : ExtractOptions} {s : Bytes} {l : Layout} {left : List Bool} where
           → Passing o s l left write under room after a' x (visits + 1) p'
       passing_visit same does read levelled =
           record {
-            walking = walking_visit h.walking after saw same e;
+            walking = walking_on h.walking after saw same e;
             fused = fed o (event_of s l v) h.fused;
             along = along_next here;
             passes = does.run under h.fused h.passes;
@@ -269,30 +268,30 @@ module _ {o : ExtractOptions} {s : Bytes} {l : Layout} {left : List Bool} where
           }
 
     -- a row that is left out
-    module _ {x : Walk} (e : r ≡ seen.TheVariants.LeftOut x) where
-      left_out : Sees s l left (passes_left s l left w stack) (seen.TheVariants.LeftOut x) after
-      left_out = left_out_seen s l left (passes_left s l left w stack) after saw e
+    module _ {x : Walk} (e : r ≡ Some (None, x)) where
+      left_out : Sees s l left (passes_left s l left w stack) (Some (None, x)) after
+      left_out = seen s l left (passes_left s l left w stack) after saw e
 
       pub left_out_less : length (passes_left s l left x after) < length (passes_left s l left w stack)
-      left_out_less = omega (arith, left_out.1)
+      left_out_less = omega (arith, left_out.2)
 
       pub passing_left_out : length after ≡ length stack → Passing o s l left write under room after a x (visits + 1) p
       passing_left_out same =
           record {
-            walking = walking_left_out h.walking after saw same e;
+            walking = walking_on h.walking after saw same e;
             fused = h.fused;
-            along = rw left_out.0 at h.along;
+            along = rw left_out.1 at h.along;
             passes = h.passes;
             levelled = h.levelled;
-            count = rw left_out.0 at h.count;
+            count = rw left_out.1 at h.count;
             most = h.most;
           }
 
     -- behind the last
-    pub passing_end : r ≡ seen.TheVariants.Done → TextPassed o s l left write under p.progress.need visits p.progress.read p.progress.serializer.writer a.out
+    pub passing_end : r ≡ None → TextPassed o s l left write under (record { need = p.progress.need; visits = visits; read = p.progress.read; writer = p.progress.serializer.writer }) a.out
     unfolding events_of fed_escaped
     passing_end e =
-        let none = ap (events_in s l) (done_seen s l left (passes_left s l left w stack) after saw e) in
+        let none = ap (events_in s l) (seen s l left (passes_left s l left w stack) after saw e) in
         let ended = along_end (rw none at h.along) in
         record {
           need_is = λ t. h.passes.need t ∙ ap (λ (F : Fused). F.note.peak) ended;

@@ -1,5 +1,5 @@
 -- What the numbers of a pass say of a fused run in which no entry was refused, and what its functions ask for and promise.
-use Rattle.std.specs.Prelude.{◌≡◌, Bool, true, false, ◌&&◌, not, cond, List, [], ℕ, ◌+◌, ◌≤◌, ◌<◌, leb, length}
+use Rattle.std.specs.Prelude.{◌≡◌, Bool, true, false, ◌&&◌, not, cond, List, [], ℕ, ◌+◌, ◌≤◌, ◌<◌, leb, length, Result, Ok, Err}
 use Rattle.common.specs.Bytes.{Bytes, length_limit}
 use Rattle.options.specs.Options.{is_off}
 use Rattle.options.specs.declared.ExtractOptions.{ExtractOptions}
@@ -7,7 +7,6 @@ use Rattle.options.specs.declared.Formatting.{Formatting}
 use Rattle.sheet.specs.declared.line.Layout.{Layout}
 use Rattle.tags.specs.Tags.{is_tr}
 use Rattle.writer.specs.Writing.{Held, Room}
-use Rattle.writer.specs.declared.Writer.{Writer}
 use Rattle.html2text.specs.Bounds.{most_events, StateBounded}
 use Rattle.html2text.specs.Collect.{Event, marked}
 use Rattle.html2text.specs.Escapes.{escaped_by, bytes_escaped}
@@ -15,6 +14,8 @@ use Rattle.html2text.specs.Extract.{Run, going, too_many_levels, too_many_rows, 
 use Rattle.html2text.specs.Fused.{Fused, closed, pushes_on, fed}
 use Rattle.html2text.specs.Serialize.{State, changes_level, step}
 use Rattle.html2text.specs.Showing.{dropped_showing, showing_of, showing_after, begun}
+use Rattle.html2text.specs.declared.ExtractError as extract
+use Rattle.html2text.specs.declared.ExtractError.{ExtractError}
 use Rattle.html2text.specs.declared.Showing.{Showing}
 use Rattle.collect.specs.Entries.{opens_on, node_of}
 use Rattle.collect.specs.Visits.{Visits, event_of}
@@ -22,8 +23,9 @@ use Rattle.collect.specs.declared.Visit.{Visit}
 use Rattle.serializer.specs.Serializing.{no_serializer, Lent, Stands}
 use Rattle.visits.specs.Visiting.{events_in, passes_of, run_of}
 use Rattle.writing.specs.declared.OpenEntry.{OpenEntry}
+use Rattle.writing.specs.declared.LimitError.{LimitError}
+use Rattle.writing.specs.declared.LimitError.TheVariants.{ListLevels, OpenRows}
 use Rattle.writing.specs.declared.Passed.{Passed}
-use Rattle.writing.specs.declared.Passed.TheVariants.{Text, TooManyLevels, TooManyRows}
 
 -- before the first visit
 abbrev pub no_pass : OpenEntry
@@ -106,6 +108,15 @@ pub record PassReady (o : ExtractOptions) (write : Bool) (e : Event) (v : Visit)
 
 -- ---- the whole pass
 
+-- where an entry passes a limit: the run, and the answer of an extraction
+abbrev pub stopped : LimitError → Run
+stopped (ListLevels line) = too_many_levels line
+stopped (OpenRows line) = too_many_rows line
+
+abbrev pub limit : LimitError → ExtractError
+limit (ListLevels line) = extract.TheVariants.ListLevels line
+limit (OpenRows line) = extract.TheVariants.OpenRows line
+
 module _ (o : ExtractOptions) (s : Bytes) (l : Layout) (left : List Bool) where
   -- where the text is written, no entry is refused and there is room for it
   pub record TextFits (out : Bytes) : Type 0 where
@@ -117,22 +128,21 @@ module _ (o : ExtractOptions) (s : Bytes) (l : Layout) (left : List Bool) where
   WriteReady write out = write ≡ true → TextFits out
 
   -- `read`: the bytes of the texts that are escaped
-  pub record TextPassed (write : Bool) (out : Bytes) (need visits read : ℕ) (w : Writer) (out' : Bytes) : Type 0 where
-    pub need_is : write ≡ false → need ≡ (run_of s l o left).note.peak
-    pub visits_is : visits ≡ length (passes_of s l left)
-    pub read_is : read ≡ bytes_escaped o [] (events_in s l (passes_of s l left))
+  pub record TextPassed (write : Bool) (out : Bytes) (p : Passed) (out' : Bytes) : Type 0 where
+    pub need_is : write ≡ false → p.need ≡ (run_of s l o left).note.peak
+    pub visits_is : p.visits ≡ length (passes_of s l left)
+    pub read_is : p.read ≡ bytes_escaped o [] (events_in s l (passes_of s l left))
     pub state : State
     pub run : closed o (run_of s l o left) ≡ going state
-    pub held : Held write out w out' state.out
+    pub held : Held write out p.writer out' state.out
 
   pub record PassRefused (write : Bool) (out : Bytes) (R : Run) (out' : Bytes) : Type 0 where
     pub run : closed o (run_of s l o left) ≡ R
     pub still : write ≡ false → out' ≡ out
 
-  abbrev pub Outcome : Bool → Bytes → Passed → Bytes → Type 0
-  Outcome write out (Text need visits read w) out' = TextPassed write out need visits read w out'
-  Outcome write out (TooManyLevels line) out' = PassRefused write out (too_many_levels line) out'
-  Outcome write out (TooManyRows line) out' = PassRefused write out (too_many_rows line) out'
+  abbrev pub Outcome : Bool → Bytes → Result Passed LimitError → Bytes → Type 0
+  Outcome write out (Ok p) out' = TextPassed write out p out'
+  Outcome write out (Err e) out' = PassRefused write out (stopped e) out'
 
-  pub record PassesAll (write : Bool) (out : Bytes) (r : Passed) (out' : Bytes) : Type 0 where
+  pub record PassesAll (write : Bool) (out : Bytes) (r : Result Passed LimitError) (out' : Bytes) : Type 0 where
     pub outcome : Outcome write out r out'

@@ -7,17 +7,17 @@ ghost use Rattle.html2text.specs.Extract.{most_levels, most_open_rows};
 ghost use Rattle.serializer.specs.Serializing.{lent};
 ghost use Rattle.sheet.specs.Layout.{most_depth};
 ghost use Rattle.visits.specs.Visiting.{Noted, Walked};
-ghost use Rattle.writing.specs.Passing.{OpenReady, Opens, PassesAll, WriteReady, depth_passes_at, no_pass, rows_pass_at};
+ghost use Rattle.writing.specs.Passing.{OpenReady, Opens, PassesAll, WriteReady, depth_passes_at, limit, no_pass, rows_pass_at};
 
 use collect::Visit;
 use collect::added::add;
 use collect::entry::{node_of, opens};
-use html2text::{MOST_LEVELS, MOST_OPEN_ROWS, Showing};
+use html2text::{ExtractError, MOST_LEVELS, MOST_OPEN_ROWS, Showing};
 use options::{ExtractOptions, Formatting};
 use serializer::step::begin;
 use serializer::{Progress, Serializer, changes_level};
 use sheet::line::Layout;
-use visits::{Seen, see};
+use visits::see;
 use walk::cursor::Walk;
 use writer::Writer;
 
@@ -32,17 +32,31 @@ pub struct OpenEntry {
 }
 
 // Of a whole pass: the longest text of an entry, where nothing is written, the visits, the bytes of escaped texts that were read and the
-// text's lengths; or the line of the first entry that would pass a limit.
+// text's lengths.
 #[derive(Clone, Copy)]
-pub enum Passed {
-    Text {
-        need: usize,
-        visits: usize,
-        read: usize,
-        writer: Writer,
-    },
-    TooManyLevels(usize),
-    TooManyRows(usize),
+pub struct Passed {
+    pub need: usize,
+    pub visits: usize,
+    pub read: usize,
+    pub writer: Writer,
+}
+
+// The line of the first entry that would pass a limit.
+#[derive(Clone, Copy, Debug, PartialEq, Eq)]
+pub enum LimitError {
+    ListLevels(usize),
+    OpenRows(usize),
+}
+
+impl From<LimitError> for ExtractError {
+    ghost from_gives = { λ e r. r ≡ limit e };
+
+    fn from(e: LimitError) -> ExtractError {
+        match e {
+            LimitError::ListLevels(line) => ExtractError::ListLevels(line),
+            LimitError::OpenRows(line) => ExtractError::OpenRows(line),
+        }
+    }
 }
 
 // Before the first visit.
@@ -77,26 +91,14 @@ fn start() -> OpenEntry
 fn passes_levels(f: Formatting, v: Visit, depth: usize) -> bool
     ensures { result ≡ depth_passes_at f v depth }
 {
-    if f.is_off() {
-        return false;
-    }
-    if v.end {
-        return false;
-    }
-    changes_level(v.tag, depth) && MOST_LEVELS <= depth
+    !f.is_off() && !v.end && changes_level(v.tag, depth) && MOST_LEVELS <= depth
 }
 
 // "22: open table rows would pass 1,024."
 fn passes_rows(v: Visit, rows: usize) -> bool
     ensures { result ≡ rows_pass_at v rows }
 {
-    if v.tag == tags::TR {
-        if v.end {
-            return false;
-        }
-        return MOST_OPEN_ROWS <= rows;
-    }
-    false
+    v.tag == tags::TR && !v.end && MOST_OPEN_ROWS <= rows
 }
 
 // The entry that a visit opens.
@@ -158,7 +160,7 @@ pub fn pass(
     cells: &mut [bool],
     out: &mut [u8],
     write: bool,
-) -> Passed
+) -> Result<Passed, LimitError>
     requires noted { Noted s.now l depths.now tags.now attributes.now values.now lengths.now }
     requires walked { Walked s.now l o left.now × (most_depth < length stack.old) × (length numbering.old ≡ most_levels) × (length cells.old ≡ most_open_rows) }
     requires write_ready { WriteReady o s.now l left.now write out.old }
@@ -168,39 +170,31 @@ pub fn pass(
     let mut w = Walk::Root(l.root);
     let mut visits = 0;
     let mut p = start();
-    loop {
-        let seen = see(
-            s, l, depths, tags, attributes, values, lengths, left, stack, w,
-        );
-        match seen {
-            Seen::Visit(v, after) => {
-                if opens(o, p.any, p.depth, v) {
-                    if passes_levels(f, v, p.progress.serializer.depth) {
-                        return Passed::TooManyLevels(v.row + 1);
-                    }
-                    if passes_rows(v, p.progress.serializer.rows) {
-                        return Passed::TooManyRows(v.row + 1);
-                    }
-                    p = open(o, v, p, numbering, cells, out, write);
-                }
-                let progress = add(o, s, l, v, p.tag, p.progress, out, write);
-                p.progress = progress;
-                w = after;
-                visits += 1;
+    while let Some((seen, after)) = see(
+        s, l, depths, tags, attributes, values, lengths, left, stack, w,
+    ) {
+        w = after;
+        visits += 1;
+        let Some(v) = seen else {
+            continue;
+        };
+        if opens(o, p.any, p.depth, v) {
+            if passes_levels(f, v, p.progress.serializer.depth) {
+                return Err(LimitError::ListLevels(v.row + 1));
             }
-            Seen::LeftOut(after) => {
-                w = after;
-                visits += 1;
+            if passes_rows(v, p.progress.serializer.rows) {
+                return Err(LimitError::OpenRows(v.row + 1));
             }
-            Seen::Done => {
-                let writer = p.progress.serializer.writer;
-                return Passed::Text {
-                    need: p.progress.need,
-                    visits,
-                    read: p.progress.read,
-                    writer,
-                };
-            }
+            p = open(o, v, p, numbering, cells, out, write);
         }
+        let progress = add(o, s, l, v, p.tag, p.progress, out, write);
+        p.progress = progress;
     }
+    let writer = p.progress.serializer.writer;
+    Ok(Passed {
+        need: p.progress.need,
+        visits,
+        read: p.progress.read,
+        writer,
+    })
 }

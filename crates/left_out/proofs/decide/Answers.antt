@@ -16,7 +16,7 @@ overflow_cast-depths c = omega (arith, c.type_inv.depths c.body_above-body.resul
 pub decide_tree-requires : goal.decide_tree-requires
 decide_tree-requires c =
     let p = c.requires in
-    record { tables = (record { steps_are = c.lent_steps.ensures; masks_are = c.lent_masks.ensures }, p.0, p.1, p.2); main_content_value = (c.if-o.true, rw (p.0.depths_are, c.body_above-body.ensures)) }
+    record { noted = p; main_content_value = (c.if-o.true, rw (p.0.depths_are, c.body_above-body.ensures)) }
 
 pub returns : goal.returns
 returns c = (left_as_noted _ c.requires.0.accepted c.requires.1 c.if-o.false, refl)

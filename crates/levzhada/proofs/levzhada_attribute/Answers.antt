@@ -4,4 +4,4 @@ use Rattle.numbers.specs.Values.{range_of}
 use Rattle.levzhada.proofs.levzhada_attribute.Goals as goal
 
 pub returns : goal.returns
-returns c = c.range_of.ensures ∙ ap range_of c.attribute_of.ensures.0
+returns c = c.from.ensures ∙ ap range_of c.attribute_of.ensures.0

@@ -3,4 +3,4 @@ use mathlib.Core.Path.{◌∙◌}
 use Rattle.levzhada.proofs.levzhada_escape.Goals as goal
 
 pub returns : goal.returns
-returns c = record { answer = c.of_written.ensures ∙ c.escape.ensures.answer; buffer = c.escape.ensures.buffer }
+returns c = record { answer = c.to_answer.ensures ∙ c.escape.ensures.answer; buffer = c.escape.ensures.buffer }

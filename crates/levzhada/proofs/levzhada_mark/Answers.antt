@@ -13,6 +13,6 @@ pub returns : goal.returns
 returns c =
     let x = c.mark.ensures in
     let all = marked_by_line c.args.sheet.now _ c.args.noscript
-    (sym c.in-Options.is ∙ c.read_line.ensures) c.of_marked.ensures
+    (sym c.in-Some.is ∙ c.read_line.ensures) c.to_answer.ensures
     (x.answer, x.sheet) in
     record { answer = all.0; sheet = all.1 }

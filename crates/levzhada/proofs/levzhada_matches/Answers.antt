@@ -3,4 +3,4 @@ use mathlib.Core.Path.{◌∙◌}
 use Rattle.levzhada.proofs.levzhada_matches.Goals as goal
 
 pub returns : goal.returns
-returns c = c.of_matched.ensures ∙ c.matches.ensures.1
+returns c = c.to_answer.ensures ∙ c.matches.ensures.1

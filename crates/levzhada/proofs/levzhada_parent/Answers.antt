@@ -3,4 +3,4 @@ use mathlib.Core.Path.{◌∙◌}
 use Rattle.levzhada.proofs.levzhada_parent.Goals as goal
 
 pub returns : goal.returns
-returns c = c.of_relative.ensures ∙ c.parent_of.ensures.1
+returns c = c.to_answer.ensures ∙ c.parent_of.ensures.1

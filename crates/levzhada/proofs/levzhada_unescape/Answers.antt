@@ -6,4 +6,4 @@ use Rattle.levzhada.proofs.levzhada_unescape.Goals as goal
 pub returns : goal.returns
 returns c =
     let x = c.unescape.ensures in
-    record { answer = c.of_unescaped.ensures ∙ ap numbers x.answer; buffer = x.buffer }
+    record { answer = c.to_answer.ensures ∙ ap numbers x.answer; buffer = x.buffer }

@@ -6,4 +6,4 @@ use Rattle.levzhada.proofs.levzhada_visible_text.Goals as goal
 pub returns : goal.returns
 returns c =
     let x = c.visible_text.ensures in
-    record { answer = c.of_visible_text.ensures ∙ ap numbers x.answer; buffer = x.buffer }
+    record { answer = c.to_answer.ensures ∙ ap numbers x.answer; buffer = x.buffer }

@@ -1,14 +1,14 @@
 -- `mark_rows` meets its contract.
 use native.Mathlib.Omega.{arith}
 use Rattle.sheet_form.proofs.AcceptedSheet.{decodes}
-use Rattle.marking.proofs.MarkingRows.{marking_start, marking_lined, marking_length, marking_end, marking_name, marking_stop, marking_more, marking_room}
+use Rattle.marking.proofs.MarkingRows.{marking_start, marking_lined, marking_end, marking_name, marking_stop, marking_more, marking_room}
 use Rattle.marking.proofs.mark_rows.Goals as goal
 
 pub depth_at-d-requires : goal.depth_at-d-requires
 depth_at-d-requires c = let a = decodes c.requires in (a.lined, a.root_there)
 
-pub overflow_add-i : goal.overflow_add-i
-overflow_add-i c = omega (arith, (decodes c.requires).root_there)
+pub overflow_step-i : goal.overflow_step-i
+overflow_step-i c = omega (arith, (decodes c.requires).root_there)
 
 pub loop-i-init : goal.loop-i-init
 loop-i-init c = marking_start _ _ _ _ (decodes c.requires)
@@ -17,9 +17,6 @@ pub depth_at-requires : goal.depth_at-requires
 depth_at-requires c =
     let a = decodes c.requires in
     (marking_lined _ _ _ _ a c.loop-i.invariant, c.loop-i-test.true)
-
-pub shape_of-s-then-depth_at-d : goal.shape_of-s-then-depth_at-d
-shape_of-s-then-depth_at-d c = marking_length _ _ _ _ (decodes c.requires) c.loop-i.invariant
 
 pub returns-then-depth_at-d : goal.returns-then-depth_at-d
 returns-then-depth_at-d c =
@@ -43,12 +40,6 @@ overflow_add-n c =
     let count = c.mark_row-n.ensures.count in
     omega (arith, marking_room _ _ _ _ a c.loop-i.invariant c.loop-i-test.true root_depth row_depth c.if-depth_at-d.false count)
 
-pub overflow_add-i-in-loop-i : goal.overflow_add-i-in-loop-i
-overflow_add-i-in-loop-i c = omega arith
-
-pub loop-i-smaller : goal.loop-i-smaller
-loop-i-smaller c = omega arith
-
 pub loop-i-preserved : goal.loop-i-preserved
 loop-i-preserved c =
     let a = decodes c.requires in
@@ -56,9 +47,6 @@ loop-i-preserved c =
     let root_depth = c.depth_at-d.ensures in
     let row_depth = c.depth_at.ensures in
     marking_more _ _ _ _ a c.loop-i.invariant c.loop-i-test.true root_depth row_depth c.if-depth_at-d.false x.count x.sheet
-
-pub shape_of-s : goal.shape_of-s
-shape_of-s c = marking_length _ _ _ _ (decodes c.requires) c.loop-i.invariant
 
 pub returns : goal.returns
 returns c =

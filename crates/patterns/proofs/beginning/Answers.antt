@@ -27,9 +27,6 @@ returns-then-n-at-lt2 c =
 pub returns-then-near-eq0 : goal.returns-then-near-eq0
 returns-then-near-eq0 c = near (goal.at.returns-then-near-eq0 c).After-pair-near
 
-pub returns-then-n-at-lt4 : goal.returns-then-n-at-lt4
-returns-then-n-at-lt4 c = near (goal.at.returns-then-n-at-lt4 c).After-pair-near
-
 pub returns : goal.returns
 returns c =
     let a = c.args in
@@ -37,4 +34,4 @@ returns c =
     both_begin (still true a.at) (drop a.at (joined a.class.now a.id.now)) c.pair-near.result c.pair.result
     (near (goal.at.returns c).After-pair-near)
     (far_mask (joined a.class.now a.id.now) a.at (g.result + 1) c.byte-3.result c.byte-4.result c.pair.result c.pair.ensures
-    (ap (λ (n : ℕ). n + 1) g.ensures.0) c.byte-3.ensures c.byte-4.ensures (omega (arith, c.requires.1, c.if-n-at-lt4.false)))
+    (ap (λ (n : ℕ). n + 1) g.ensures.0) c.byte-3.ensures c.byte-4.ensures (omega (arith, c.requires.1, c.if-near-eq0.false)))

@@ -4,22 +4,13 @@ use Rattle.byte_regex.specs.Joined.{joined}
 use Rattle.patterns.proofs.SearchLaws.{collect_start, collect_more, collect_end}
 use Rattle.patterns.proofs.candidates.Goals as goal
 
-pub size-n-requires : goal.size-n-requires
-size-n-requires c = c.requires.0
-
 pub loop-at-init : goal.loop-at-init
 loop-at-init c =
     let a = c.args in
     collect_start (joined a.class.now a.id.now)
 
 pub beginning-set-requires : goal.beginning-set-requires
-beginning-set-requires c = (c.loop-at-test.true, c.size-n.ensures, c.requires.1)
-
-pub overflow_add-at : goal.overflow_add-at
-overflow_add-at c = omega (arith, c.loop-at-test.true, c.size-n.ensures, c.loop-at.invariant.within)
-
-pub loop-at-smaller : goal.loop-at-smaller
-loop-at-smaller c = omega (arith, c.loop-at-test.true, c.size-n.ensures, c.loop-at.invariant.within)
+beginning-set-requires c = (c.loop-at-test.true, c.size-n.ensures)
 
 pub loop-at-preserved : goal.loop-at-preserved
 loop-at-preserved c =

@@ -4,5 +4,5 @@ use mathlib.Core.Path.{sym}
 use Rattle.patterns.proofs.CandidateLaws.{group_past}
 use Rattle.patterns.proofs.group_at.Goals as goal
 
-pub returns : goal.returns
-returns c = (sym (group_past c.args.at c.if-at-eq0.false), omega arith)
+pub returns-else-at-eq0 : goal.returns-else-at-eq0
+returns-else-at-eq0 c = (sym (group_past c.args.at c.if-at-eq0.false), omega arith)

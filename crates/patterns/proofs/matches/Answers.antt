@@ -1,19 +1,18 @@
 -- `matches` meets its contract.
-use mathlib.Core.Path.{sym, ◌∙◌}
-use Rattle.patterns.proofs.AnswerLaws.{answer_none, answer_yes, answer_no}
+use mathlib.Core.Path.{ap, ◌∙◌}
+use Prim.Native.Nat.{ℕ}
+use native.Mathlib.Omega.{arith}
+use Rattle.patterns.specs.Match.{matches_of}
+use Rattle.patterns.proofs.AnswerLaws.{error_is, answer_none, answer_some}
+use Rattle.patterns.proofs.NumberLaws.{number_lt}
 use Rattle.patterns.proofs.matches.Goals as goal
 
-pub returns-then-pattern-gt-LAST : goal.returns-then-pattern-gt-LAST
-returns-then-pattern-gt-LAST c =
-    let a = c.args in
-    answer_none a.pattern a.s.now c.if-pattern-gt-LAST.true
-
-pub returns-then-search : goal.returns-then-search
-returns-then-search c =
-    let a = c.args in
-    answer_yes a.pattern a.s.now c.if-pattern-gt-LAST.false (sym c.if-search.true ∙ c.search.ensures)
+pub returns-in_err-try_from : goal.returns-in_err-try_from
+returns-in_err-try_from c =
+    let e = c.in_err-try_from.ensures in
+    answer_none c.args.pattern c.args.s.now (error_is c.from_residual.result c.in_err-try_from.field-0.0 c.from_residual.ensures.1) e.0 e.1
 
 pub returns : goal.returns
 returns c =
-    let a = c.args in
-    answer_no a.pattern a.s.now c.if-pattern-gt-LAST.false (sym c.if-search.false ∙ c.search.ensures)
+    let e = c.in_ok-try_from.ensures in
+    answer_some c.args.pattern c.args.s.now (omega (arith, e, number_lt c.in_ok-try_from.field-0)) _ (c.search.ensures ∙ ap (λ (n : ℕ). matches_of n c.args.s.now) e)

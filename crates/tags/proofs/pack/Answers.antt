@@ -10,23 +10,11 @@ loop-i-init c = packing_start _
 pub overflow_mul-v : goal.overflow_mul-v
 overflow_mul-v c = omega (arith, packing_room c.loop-i.invariant c.loop-i-test.true c.requires (λ i. omega (arith, c.type_inv.name i)))
 
-pub overflow_sub-i : goal.overflow_sub-i
-overflow_sub-i c = omega arith
-
-pub bounds-name-i : goal.bounds-name-i
-bounds-name-i c = omega (arith, c.loop-i.invariant.inside)
-
 pub overflow_add-v : goal.overflow_add-v
-overflow_add-v c = omega (arith, packing_room c.loop-i.invariant c.loop-i-test.true c.requires (λ i. omega (arith, c.type_inv.name i)), c.type_inv.name (c.loop-i.i - 1), c.wide.ensures)
-
-pub overflow_sub-i-in-loop-i : goal.overflow_sub-i-in-loop-i
-overflow_sub-i-in-loop-i c = omega arith
-
-pub loop-i-smaller : goal.loop-i-smaller
-loop-i-smaller c = omega arith
+overflow_add-v c = omega (arith, packing_room c.loop-i.invariant c.loop-i-test.true c.requires (λ i. omega (arith, c.type_inv.name i)), c.from.ensures, c.type_inv.name (c.loop-i.i - 1))
 
 pub loop-i-preserved : goal.loop-i-preserved
-loop-i-preserved c = packing_more c.loop-i.invariant c.loop-i-test.true (omega (arith, c.wide.ensures))
+loop-i-preserved c = packing_more c.loop-i.invariant c.loop-i-test.true (omega (arith, c.from.ensures))
 
 pub returns : goal.returns
 returns c = packing_end c.loop-i.invariant c.loop-i-test.false

@@ -5,25 +5,15 @@ use lib.ListN.{length}
 use Rattle.text.proofs.EscapeLaws.{escape_count, escape_done}
 use Rattle.text.proofs.escaped_len.Goals as goal
 
-pub loop-i-init : goal.loop-i-init
-loop-i-init c = (omega arith, omega arith, omega arith)
-
-pub bounds-s-i : goal.bounds-s-i
-bounds-s-i c = omega arith
-
-pub overflow_add-i : goal.overflow_add-i
-overflow_add-i c = omega arith
-
-pub loop-i-smaller : goal.loop-i-smaller
-loop-i-smaller c = omega arith
-
-pub loop-i-preserved : goal.loop-i-preserved
-loop-i-preserved c =
-    let a = c.args in
-    let l = c.loop-i in
-    (omega arith, omega (arith, c.add_capped-n.ensures), escape_count a.s.now l.i l.n c.entity_len.result c.add_capped-n.result _ c.loop-i-test.true c.entity_len.ensures c.add_capped-n.ensures l.invariant.2)
+pub loop-b-preserved : goal.loop-b-preserved
+loop-b-preserved c =
+    let l = c.loop-b in (
+      omega (arith, c.saturating_add-n.ensures),
+      escape_count c.args.s.now l.b-index l.n c.entity_len.result c.saturating_add-n.result _
+          c.loop-b-test.true c.entity_len.ensures c.saturating_add-n.ensures l.invariant.1,
+    )
 
 pub returns : goal.returns
 returns c =
-    let l = c.loop-i in
-    omega (arith, l.invariant.1, l.invariant.2, ap length (escape_done c.args.s.now l.i c.loop-i-test.false))
+    let l = c.loop-b in
+    omega (arith, l.invariant.0, l.invariant.1, ap length (escape_done c.args.s.now l.b-index c.loop-b-test.false))

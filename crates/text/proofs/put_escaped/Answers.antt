@@ -6,31 +6,22 @@ use Rattle.text.specs.Text.{escaped}
 use Rattle.text.proofs.EscapeLaws.{escape_next, escape_done}
 use Rattle.text.proofs.put_escaped.Goals as goal
 
-pub loop-i-init : goal.loop-i-init
-loop-i-init c = (omega arith, putting_start)
-
-pub bounds-s-i : goal.bounds-s-i
-bounds-s-i c = omega arith
+pub loop-b-init : goal.loop-b-init
+loop-b-init c = putting_start
 
 pub put_entity-at-requires : goal.put_entity-at-requires
 put_entity-at-requires c =
     let a = c.args in
-    let l = c.loop-i in
-    putting_room (escaped (get_or a.s.now l.i 0)) _ l.invariant.1 (escape_next _ _ c.loop-i-test.true) (omega (arith, c.requires))
+    let l = c.loop-b in
+    putting_room (escaped (get_or a.s.now l.b-index 0)) _ l.invariant (escape_next _ _ c.loop-b-test.true) (omega (arith, c.requires))
 
-pub overflow_add-i : goal.overflow_add-i
-overflow_add-i c = omega arith
-
-pub loop-i-smaller : goal.loop-i-smaller
-loop-i-smaller c = omega arith
-
-pub loop-i-preserved : goal.loop-i-preserved
-loop-i-preserved c =
-    let l = c.loop-i in
-    (omega arith, putting_more l.invariant.1 (escape_next _ _ c.loop-i-test.true) c.put_entity-at.ensures)
+pub loop-b-preserved : goal.loop-b-preserved
+loop-b-preserved c =
+    let l = c.loop-b in
+    putting_more l.invariant (escape_next _ _ c.loop-b-test.true) c.put_entity-at.ensures
 
 pub shape_of-out : goal.shape_of-out
-shape_of-out c = c.loop-i.invariant.1.same
+shape_of-out c = c.loop-b.invariant.same
 
 pub returns : goal.returns
-returns c = putting_end c.loop-i.invariant.1 (escape_done _ _ c.loop-i-test.false)
+returns c = putting_end c.loop-b.invariant (escape_done _ _ c.loop-b-test.false)

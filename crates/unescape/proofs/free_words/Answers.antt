@@ -3,26 +3,8 @@ use Prim.Native.Nat.{◌+◌, ◌≤◌}
 use native.Mathlib.Omega.{arith}
 use lib.ListN.{length}
 use Rattle.common.proofs.Words.{octets_word}
-use Rattle.unescape.proofs.FreeLaws.{free_start, free_word_more}
+use Rattle.unescape.proofs.FreeLaws.{free_word_more}
 use Rattle.unescape.proofs.free_words.Goals as goal
-
-pub loop-i-init : goal.loop-i-init
-loop-i-init c = free_start c.requires
-
-pub overflow_sub-s : goal.overflow_sub-s
-overflow_sub-s c = c.loop-i.invariant.within
-
-pub word_at-requires : goal.word_at-requires
-word_at-requires c = omega (arith, c.loop-i-test.true, c.loop-i.invariant.within)
-
-pub returns-then-not-is_free : goal.returns-then-not-is_free
-returns-then-not-is_free c = c.loop-i.invariant
-
-pub overflow_add-i : goal.overflow_add-i
-overflow_add-i c = omega (arith, c.loop-i-test.true)
-
-pub loop-i-smaller : goal.loop-i-smaller
-loop-i-smaller c = omega (arith, c.loop-i-test.true)
 
 pub loop-i-preserved : goal.loop-i-preserved
 loop-i-preserved c =
@@ -32,6 +14,3 @@ loop-i-preserved c =
     free_word_more c.loop-i.invariant room
     (rw (← octets_word s i (λ k. (c.type_inv.s k).fits) room, ← c.word_at.ensures)
     (c.is_free.ensures c.if-not-is_free.false))
-
-pub returns : goal.returns
-returns c = c.loop-i.invariant

@@ -7,9 +7,6 @@ use Rattle.unescape.proofs.measure.Goals as goal
 pub loop-i-init : goal.loop-i-init
 loop-i-init c = measuring_start c.next_ampersand-i.ensures
 
-pub part_at-p-requires : goal.part_at-p-requires
-part_at-p-requires c = c.loop-i.invariant.within
-
 pub returns-then-p-eq1 : goal.returns-then-p-eq1
 returns-then-p-eq1 c =
     let m = c.loop-i.invariant in

@@ -1,11 +1,6 @@
 -- `next_ampersand` meets its contract.
-use Prim.Native.Nat.{◌-◌}
-use lib.ListN.{length}
 use Rattle.unescape.specs.Inner.{FreeOf}
 use Rattle.unescape.proofs.next_ampersand.Given as goal
 
 abbrev pub invariant-loop-i : goal.invariant-loop-i
 invariant-loop-i l = FreeOf l.s l.from l.i
-
-abbrev pub decreases-loop-i : goal.decreases-loop-i
-decreases-loop-i l = length l.s - l.i

@@ -1,23 +1,14 @@
 -- `put_unescaped` meets its contract.
-use mathlib.Core.Path.{sym, ◌∙◌}
 use native.Mathlib.Omega.{arith}
-use lib.Seq.{length-take-le}
-use Rattle.common.proofs.Puts.{puts_length}
 use Rattle.unescape.proofs.PutLaws.{first_room, first_then, storing_start, storing_stands}
 use Rattle.unescape.proofs.PutLaws.{storing_byte, storing_run, storing_more, storing_end}
 use Rattle.unescape.proofs.put_unescaped.Goals as goal
-
-pub slice_bounds-put-end : goal.slice_bounds-put-end
-slice_bounds-put-end c = sym (length-take-le _ _ c.next_ampersand-i.ensures.free.within)
 
 pub put-at-requires : goal.put-at-requires
 put-at-requires c = first_room c.next_ampersand-i.ensures c.requires
 
 pub loop-i-init : goal.loop-i-init
 loop-i-init c = storing_start c.next_ampersand-i.ensures c.put-at.ensures c.requires
-
-pub part_at-p-requires : goal.part_at-p-requires
-part_at-p-requires c = c.loop-i.invariant.within
 
 pub bounds-out-at : goal.bounds-out-at
 bounds-out-at c =
@@ -31,29 +22,6 @@ overflow_add-past c =
 
 pub next_ampersand-i-requires-in-loop-i : goal.next_ampersand-i-requires-in-loop-i
 next_ampersand-i-requires-in-loop-i c = (storing_stands c.loop-i.invariant c.loop-i-test.true c.part_at-p.ensures).within
-
-pub overflow_add-at : goal.overflow_add-at
-overflow_add-at c =
-    let t = c.loop-i.invariant in
-    record {
-      fits =
-          omega (
-            arith,
-            storing_byte t (storing_stands t c.loop-i-test.true c.part_at-p.ensures),
-            t.puts.same,
-            puts_length c.put-at.ensures,
-            c.well_formed,
-          );
-    }
-
-pub slice_bounds-put-count : goal.slice_bounds-put-count
-slice_bounds-put-count c = c.next_ampersand-i-in-loop-i.ensures.free.ordered
-
-pub slice_bounds-put-start : goal.slice_bounds-put-start
-slice_bounds-put-start c = omega (arith, c.next_ampersand-i-in-loop-i.ensures.free.ordered, c.next_ampersand-i-in-loop-i.ensures.free.within)
-
-pub slice_bounds-put-end-in-loop-i : goal.slice_bounds-put-end-in-loop-i
-slice_bounds-put-end-in-loop-i c = omega (arith, c.next_ampersand-i-in-loop-i.ensures.free.ordered, c.next_ampersand-i-in-loop-i.ensures.free.within)
 
 pub put-at-requires-in-loop-i : goal.put-at-requires-in-loop-i
 put-at-requires-in-loop-i c =
@@ -71,9 +39,6 @@ loop-i-preserved c =
     let t = c.loop-i.invariant in
     let q = storing_stands t c.loop-i-test.true c.part_at-p.ensures in
     storing_more t q c.next_ampersand-i-in-loop-i.ensures c.put-at-in-loop-i.ensures
-
-pub shape_of-out : goal.shape_of-out
-shape_of-out c = c.loop-i.invariant.puts.same ∙ puts_length c.put-at.ensures
 
 pub returns : goal.returns
 returns c =

@@ -1,18 +1,20 @@
 -- `added::field_value` meets its contract.
+use mathlib.Core.Path.{sym, ◌∙◌}
+use borrow.Author.Tests.{eqb-true, eqb-false}
 use Rattle.common.specs.Bytes.{codes}
 use Rattle.tree.specs.Page.{node_at}
 use Rattle.collect.proofs.AddedLaws.{field_placeholder, field_own}
 use Rattle.collect.proofs.added.field_value.Goals as goal
 
-pub returns-then-trim-eq0 : goal.returns-then-trim-eq0
+pub returns-then-is_empty : goal.returns-then-is_empty
 unfolding codes
-returns-then-trim-eq0 c =
+returns-then-is_empty c =
     let n = node_at c.args.s.now c.args.l c.args.v.row in
-    field_placeholder n c.if-trim-eq0.true c.trim.ensures c.attribute_or_empty-value.ensures
+    field_placeholder n (eqb-true _ _ (sym c.is_empty.ensures ∙ c.if-is_empty.true)) c.trim.ensures c.attribute_or_empty-value.ensures
     c.attribute_or_empty.ensures
 
-pub returns : goal.returns
+pub returns-else-is_empty : goal.returns-else-is_empty
 unfolding codes
-returns c =
+returns-else-is_empty c =
     let n = node_at c.args.s.now c.args.l c.args.v.row in
-    field_own n c.if-trim-eq0.false c.trim.ensures c.attribute_or_empty-value.ensures
+    field_own n (eqb-false _ _ (sym c.is_empty.ensures ∙ c.if-is_empty.false)) c.trim.ensures c.attribute_or_empty-value.ensures

@@ -13,7 +13,7 @@ pub decide-requires : goal.decide-requires
 decide-requires c = let p = c.requires in (noted p.accepted.1 p.rows_read p.accepted.0, marks_noted p.accepted.1 p.rows_read, p.most_depth_in_bounds.0)
 
 pub extract_rows-requires : goal.extract_rows-requires
-extract_rows-requires c = let p = c.requires in record { noted = visits_noted p.accepted.1 p.rows_read p.accepted.0; walked = (rows_walked _ _ _ _ c.decide.ensures.0 p.accepted.0 (omega (arith, c.left-1.given, p.accepted.1.left_long)), omega (arith, c.stack-1.given, p.most_depth_in_bounds.0), p.most_depth_in_bounds.1, p.most_depth_in_bounds.2) }
+extract_rows-requires c = let p = c.requires in record { noted = visits_noted p.accepted.1 p.rows_read p.accepted.0; walked = (rows_walked _ _ _ _ c.decide.ensures.0 p.accepted.0 (omega (arith, p.accepted.1.left_long)), omega (arith, p.most_depth_in_bounds.0), p.most_depth_in_bounds.1, p.most_depth_in_bounds.2) }
 
 pub returns : goal.returns
 returns c =

@@ -1,5 +1,6 @@
 -- `attributes::attribute_number` meets its contract.
 use mathlib.Core.Path.{refl}
+use native.Mathlib.Omega.{arith}
 use mathlib.Core.Bool.{not, ◌||◌}
 use mathlib.Core.List.{[]}
 use lib.Dec.{eqb}
@@ -58,16 +59,16 @@ returns-in_default c =
     let s = c.args.name.now in
     number_none (λ n. not (eqb n 2 || (eqb n 3 || (eqb n 4 || (eqb n 5 || (eqb n 6 || (eqb n 7 || (eqb n 8 || (eqb n 11 || (eqb n 12 || (eqb n 13 || (eqb n 18)))))))))))) [] refl s
     (simp (
-      ne_eqb (length s) 2 c.in_default.in_default-own.rest.0.0.0.0.0.0.0.0.0.0.1,
-      ne_eqb (length s) 3 c.in_default.in_default-own.rest.0.0.0.0.0.0.0.0.0.1,
-      ne_eqb (length s) 4 c.in_default.in_default-own.rest.0.0.0.0.0.0.0.0.1,
-      ne_eqb (length s) 5 c.in_default.in_default-own.rest.0.0.0.0.0.0.0.1,
-      ne_eqb (length s) 6 c.in_default.in_default-own.rest.0.0.0.0.0.0.1,
-      ne_eqb (length s) 7 c.in_default.in_default-own.rest.0.0.0.0.0.1,
-      ne_eqb (length s) 8 c.in_default.in_default-own.rest.0.0.0.0.1,
-      ne_eqb (length s) 11 c.in_default.in_default-own.rest.0.0.0.1,
-      ne_eqb (length s) 12 c.in_default.in_default-own.rest.0.0.1,
-      ne_eqb (length s) 13 c.in_default.in_default-own.rest.0.1,
-      ne_eqb (length s) 18 c.in_default.in_default-own.rest.1,
+      ne_eqb (length s) 2 (λ e. grind arith),
+      ne_eqb (length s) 3 (λ e. grind arith),
+      ne_eqb (length s) 4 (λ e. grind arith),
+      ne_eqb (length s) 5 (λ e. grind arith),
+      ne_eqb (length s) 6 (λ e. grind arith),
+      ne_eqb (length s) 7 (λ e. grind arith),
+      ne_eqb (length s) 8 (λ e. grind arith),
+      ne_eqb (length s) 11 (λ e. grind arith),
+      ne_eqb (length s) 12 (λ e. grind arith),
+      ne_eqb (length s) 13 (λ e. grind arith),
+      ne_eqb (length s) 18 (λ e. grind arith),
     ))
     (none_of_none s)

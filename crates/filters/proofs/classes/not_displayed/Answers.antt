@@ -1,30 +1,33 @@
 -- `classes::not_displayed` meets its contract.
-use mathlib.Core.Bool.{not}
-use mathlib.Core.Path.{sym, ap, ◌∙◌}
-use native.Mathlib.Omega.{arith}
+use mathlib.Core.Bool.{not, ◌&&◌}
+use mathlib.Core.Path.{◌≡◌, sym, ap, ◌∙◌}
 use Rattle.patterns.specs.Match.{matches_of}
-use Rattle.patterns.specs.Patterns.{patterns}
+use Rattle.patterns.specs.Patterns.{patterns, display_cls}
+use Rattle.byte_regex.specs.Match.{finds}
 use Rattle.filters.specs.Filters.{not_displayed}
-use Rattle.common.proofs.TestLaws.{or_yes, or_no, and_yes, and_no}
+use Rattle.common.proofs.TestLaws.{or_yes, or_no, and_yes}
+use Rattle.filters.proofs.IconLaws.{and_far}
+use Rattle.filters.proofs.classes.not_displayed.Goals.{then-not-hidden_elements, else-not-hidden_elements}
 use Rattle.filters.proofs.classes.not_displayed.Goals as goal
-
-pub matches_joined-requires : goal.matches_joined-requires
-matches_joined-requires c = (omega arith, omega (arith, c.requires.1), c.requires.0.steps_are, c.requires.0.masks_are)
-
-pub returns-then-hidden_elements : goal.returns-then-hidden_elements
-unfolding not_displayed matches_of patterns
-returns-then-hidden_elements c = or_no _ (sym (and_no _ (ap not c.if-hidden_elements.true))) c.matches_joined.ensures
-
-pub matches_among-requires : goal.matches_among-requires
-matches_among-requires c = (omega arith, omega (arith, c.requires.1), c.requires.0.steps_are, c.requires.0.masks_are, c.requires.2)
 
 pub returns-then-matches_among : goal.returns-then-matches_among
 unfolding not_displayed matches_of patterns
-returns-then-matches_among c = or_yes _ (sym (and_yes _ (ap not c.if-hidden_elements.false) (sym c.if-matches_among.true ∙ c.matches_among.ensures)))
+returns-then-matches_among c =
+    let class : c.if-not-hidden_elements.value ≡ (not c.args.hidden_elements && finds display_cls c.args.class.now) =
+    elim c.if-not-hidden_elements.branch [
+      | then-not-hidden_elements w ↦ and_yes _ (ap not w.if-not-hidden_elements.true) (w.value-is ∙ w.matches_among.ensures)
+      | else-not-hidden_elements w ↦ and_far _ w.value-is (ap not w.if-not-hidden_elements.false)
+    ]
+    in
+    c.if-matches_among.true ∙ or_yes _ (sym class ∙ c.if-matches_among.true)
 
-pub matches_joined-requires-2 : goal.matches_joined-requires-2
-matches_joined-requires-2 c = (omega arith, omega (arith, c.requires.1), c.requires.0.steps_are, c.requires.0.masks_are)
-
-pub returns : goal.returns
+pub returns-else-matches_among : goal.returns-else-matches_among
 unfolding not_displayed matches_of patterns
-returns c = or_no _ (sym (and_yes _ (ap not c.if-hidden_elements.false) (sym c.if-matches_among.false ∙ c.matches_among.ensures))) c.matches_joined-2.ensures
+returns-else-matches_among c =
+    let class : c.if-not-hidden_elements.value ≡ (not c.args.hidden_elements && finds display_cls c.args.class.now) =
+    elim c.if-not-hidden_elements.branch [
+      | then-not-hidden_elements w ↦ and_yes _ (ap not w.if-not-hidden_elements.true) (w.value-is ∙ w.matches_among.ensures)
+      | else-not-hidden_elements w ↦ and_far _ w.value-is (ap not w.if-not-hidden_elements.false)
+    ]
+    in
+    or_no _ (sym class ∙ c.if-matches_among.false) c.matches_joined.ensures

@@ -1,12 +1,9 @@
 -- `classes::signin_meta_or_social` meets its contract.
-use mathlib.Core.List.{[], ◌∷◌}
-use mathlib.Core.Path.{refl}
 use borrow.Author.Tests.{lt-ltb, le-ltb}
 use Rattle.patterns.specs.Match.{matches_of}
 use Rattle.patterns.specs.Patterns.{patterns}
 use Rattle.filters.specs.Classes.{any_match}
 use Rattle.filters.specs.Filters.{signin_meta_or_social}
-use Rattle.filters.proofs.ClassLaws.{are_patterns}
 use Rattle.common.proofs.TestLaws.{and_yes, and_no}
 use Rattle.filters.proofs.classes.signin_meta_or_social.Goals as goal
 
@@ -14,15 +11,9 @@ pub returns-then-depth-le2 : goal.returns-then-depth-le2
 unfolding signin_meta_or_social
 returns-then-depth-le2 c = and_no _ (le-ltb _ _ c.if-depth-le2.true)
 
-pub any_among-requires : goal.any_among-requires
-any_among-requires c = (c.requires.0, c.requires.1, c.requires.2, are_patterns (14 ∷ 16 ∷ []) refl)
-
 pub returns-then-post_meta : goal.returns-then-post_meta
 unfolding signin_meta_or_social any_match matches_of patterns
 returns-then-post_meta c = and_yes _ (lt-ltb _ _ c.if-depth-le2.false) (rw c.if-post_meta.true c.any_among.ensures)
-
-pub any_among-requires-2 : goal.any_among-requires-2
-any_among-requires-2 c = (c.requires.0, c.requires.1, c.requires.2, are_patterns (14 ∷ 6 ∷ 16 ∷ []) refl)
 
 pub returns : goal.returns
 unfolding signin_meta_or_social any_match matches_of patterns

@@ -1,5 +1,8 @@
 -- `footer::content_follows` meets its contract.
-use mathlib.Core.Path.{refl, sym, ◌∙◌}
+use Rattle.std.specs.Prelude.{is_some}
+use mathlib.Core.Bool.{not}
+use mathlib.Core.Path.{refl, sym, ap, ◌∙◌}
+use borrow.Author.Tests.{ne_eqb}
 use Rattle.sheet.specs.Layout.{depths}
 use Rattle.tree.specs.Page.{node_at}
 use Rattle.tree.proofs.Column.{below_length, past_length, depth_is}
@@ -11,24 +14,19 @@ use Rattle.filters.proofs.footer.content_follows.Goals as goal
 pub returns-then-l-end : goal.returns-then-l-end
 returns-then-l-end c = none_behind (node_at c.args.s.now c.args.l) (depths c.args.s.now c.args.l) _ _ c.requires.2 (past_length _ _ _ c.if-l-end.true)
 
-pub row_at-next-requires : goal.row_at-next-requires
-row_at-next-requires c = (c.requires.0.lined, c.if-l-end.false)
-
-pub depth_at-requires : goal.depth_at-requires
-depth_at-requires c = (c.requires.0.lined, c.requires.1)
-
-pub returns-then-next-depth_at : goal.returns-then-next-depth_at
-returns-then-next-depth_at c = none_beside (node_at c.args.s.now c.args.l) (depths c.args.s.now c.args.l) _ _ c.requires.2 (λ e. c.if-next-depth_at.true (depth_read c.args.s.now c.args.l c.args.end c.row_at-next.ensures c.if-l-end.false refl ∙ e ∙ sym (depth_is c.args.s.now c.args.l _ c.requires.1 c.depth_at.ensures)))
+pub returns-else-next-depth_at : goal.returns-else-next-depth_at
+returns-else-next-depth_at c =
+    ne_eqb _ _ c.if-next-depth_at.false
+    ∙ none_beside (node_at c.args.s.now c.args.l) (depths c.args.s.now c.args.l) _ _ c.requires.2
+    (λ e. c.if-next-depth_at.false (depth_read c.args.s.now c.args.l c.args.end c.row_at-next.ensures c.if-l-end.false refl ∙ e ∙ sym (depth_is c.args.s.now c.args.l _ c.requires.1 c.depth_at.ensures)))
 
 pub returns-then-next-ne3 : goal.returns-then-next-ne3
 returns-then-next-ne3 c =
-    sibling_behind (node_at c.args.s.now c.args.l) (depths c.args.s.now c.args.l) _ _ c.requires.2 (below_length c.args.s.now c.args.l _ c.if-l-end.false) (sym (depth_read c.args.s.now c.args.l c.args.end c.row_at-next.ensures c.if-l-end.false refl) ∙ c.if-next-depth_at.false ∙ depth_is c.args.s.now c.args.l _ c.requires.1 c.depth_at.ensures)
+    ap not (ne_eqb _ _ c.if-next-ne3.true)
+    ∙ sibling_behind (node_at c.args.s.now c.args.l) (depths c.args.s.now c.args.l) _ _ c.requires.2 (below_length c.args.s.now c.args.l _ c.if-l-end.false) (sym (depth_read c.args.s.now c.args.l c.args.end c.row_at-next.ensures c.if-l-end.false refl) ∙ c.if-next-depth_at.true ∙ depth_is c.args.s.now c.args.l _ c.requires.1 c.depth_at.ensures)
     (or_yes _ (not_text c.args.s.now c.args.l _ c.row_at-next.ensures c.if-next-ne3.true))
 
-pub has_next-requires : goal.has_next-requires
-has_next-requires c = (c.requires.0, c.if-l-end.false)
-
-pub returns : goal.returns
-returns c =
-    sibling_behind (node_at c.args.s.now c.args.l) (depths c.args.s.now c.args.l) _ _ c.requires.2 (below_length c.args.s.now c.args.l _ c.if-l-end.false) (sym (depth_read c.args.s.now c.args.l c.args.end c.row_at-next.ensures c.if-l-end.false refl) ∙ c.if-next-depth_at.false ∙ depth_is c.args.s.now c.args.l _ c.requires.1 c.depth_at.ensures)
-    (or_no _ (is_text c.args.s.now c.args.l _ c.row_at-next.ensures c.if-next-ne3.false) c.has_next.ensures)
+pub returns-else-next-ne3 : goal.returns-else-next-ne3
+returns-else-next-ne3 c =
+    sibling_behind (node_at c.args.s.now c.args.l) (depths c.args.s.now c.args.l) _ _ c.requires.2 (below_length c.args.s.now c.args.l _ c.if-l-end.false) (sym (depth_read c.args.s.now c.args.l c.args.end c.row_at-next.ensures c.if-l-end.false refl) ∙ c.if-next-depth_at.true ∙ depth_is c.args.s.now c.args.l _ c.requires.1 c.depth_at.ensures)
+    (or_no _ (is_text c.args.s.now c.args.l _ c.row_at-next.ensures c.if-next-ne3.false) (c.is_some.ensures ∙ ap is_some c.next_sibling.ensures))

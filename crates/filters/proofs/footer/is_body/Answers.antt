@@ -1,15 +1,13 @@
 -- `footer::is_body` meets its contract.
+use mathlib.Core.Path.{◌∙◌}
+use borrow.Author.Tests.{ne_eqb}
 use Rattle.common.specs.Bytes.{codes}
-use Rattle.tree.proofs.PageLaws.{name_fits}
 use Rattle.filters.proofs.RowLaws.{body_other, body_named}
 use Rattle.filters.proofs.footer.is_body.Goals as goal
 
-pub returns-then-row-ne1 : goal.returns-then-row-ne1
-returns-then-row-ne1 c = body_other c.args.s.now c.args.l c.args.i c.row_at-row.ensures c.if-row-ne1.true
+pub returns-else-row-eq1 : goal.returns-else-row-eq1
+returns-else-row-eq1 c = ne_eqb _ _ c.if-row-eq1.false ∙ body_other c.args.s.now c.args.l c.args.i c.row_at-row.ensures c.if-row-eq1.false
 
-pub part-requires : goal.part-requires
-part-requires c = (c.requires.0.lined, name_fits _ _ _ c.row_at-row.ensures c.requires.0 c.requires.1)
-
-pub returns : goal.returns
+pub returns-then-row-eq1 : goal.returns-then-row-eq1
 unfolding codes
-returns c = body_named c.args.s.now c.args.l c.args.i c.row_at-row.ensures c.if-row-ne1.false c.part.ensures c.same.ensures
+returns-then-row-eq1 c = body_named c.args.s.now c.args.l c.args.i c.row_at-row.ensures c.if-row-eq1.true c.part.ensures c.same.ensures

@@ -11,6 +11,6 @@ pub returns-then-icons : goal.returns-then-icons
 unfolding is_icon
 returns-then-icons c = cond_yes _ c.if-icons.true c.is_private_icon.ensures
 
-pub returns : goal.returns
+pub returns-else-icons : goal.returns-else-icons
 unfolding is_icon
-returns c = cond_no _ c.if-icons.false c.is_legacy_icon.ensures
+returns-else-icons c = cond_no _ c.if-icons.false c.is_legacy_icon.ensures

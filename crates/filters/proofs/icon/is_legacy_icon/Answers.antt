@@ -1,15 +1,16 @@
 -- `icon::is_legacy_icon` meets its contract.
-use mathlib.Core.Path.{sym, ◌∙◌}
-use Rattle.filters.proofs.IconLaws.{legacy_pilcrow, legacy_size, legacy_three}
+use mathlib.Core.Path.{◌∙◌}
+use native.Mathlib.Omega.{arith}
+use Rattle.filters.proofs.IconLaws.{legacy_three, legacy_other}
+use Rattle.filters.proofs.icon.is_legacy_icon.Goals.{in_default-via-then-text-lt3, in_default-via-else-text-lt3+else-text-lt4}
 use Rattle.filters.proofs.icon.is_legacy_icon.Goals as goal
 
-pub returns-then-is_pilcrow : goal.returns-then-is_pilcrow
-returns-then-is_pilcrow c = legacy_pilcrow _ (sym c.is_pilcrow.ensures ∙ c.if-is_pilcrow.true)
+pub returns-in-len3 : goal.returns-in-len3
+returns-in-len3 c = legacy_three _ (omega (arith, c.in-len3.len_at_least, c.in-len3.len_below)) c.in_legacy_range.ensures
 
-pub returns-then-text-ne3 : goal.returns-then-text-ne3
-returns-then-text-ne3 c = legacy_size _ (sym c.is_pilcrow.ensures ∙ c.if-is_pilcrow.false) c.if-text-ne3.true
-
-pub returns : goal.returns
-returns c =
-    legacy_three _ (sym c.is_pilcrow.ensures ∙ c.if-is_pilcrow.false) c.if-text-ne3.false
-    c.in_legacy_range.ensures
+pub returns-in_default : goal.returns-in_default
+returns-in_default c =
+    elim c.in_default.branch [
+      | in_default-via-then-text-lt3 w ↦ c.is_pilcrow.ensures ∙ legacy_other _ (λ e. grind arith)
+      | in_default-via-else-text-lt3+else-text-lt4 w ↦ c.is_pilcrow.ensures ∙ legacy_other _ (λ e. grind arith)
+    ]

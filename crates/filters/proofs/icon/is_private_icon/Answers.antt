@@ -1,13 +1,13 @@
 -- `icon::is_private_icon` meets its contract.
-use Rattle.filters.proofs.IconLaws.{private_three, private_four, private_other}
 use mathlib.Core.Path.{◌∙◌}
+use native.Mathlib.Omega.{arith}
+use Rattle.filters.proofs.IconLaws.{private_other}
+use Rattle.filters.proofs.icon.is_private_icon.Goals.{in_default-via-then-text-lt3, in_default-via-else-text-lt3+else-text-lt4+else-text-lt5}
 use Rattle.filters.proofs.icon.is_private_icon.Goals as goal
 
-pub returns-then-text-eq4 : goal.returns-then-text-eq4
-returns-then-text-eq4 c = private_four _ c.if-text-eq4.true c.is_icon_of_four.ensures
-
-pub returns-then-text-eq3 : goal.returns-then-text-eq3
-returns-then-text-eq3 c = private_three _ c.if-text-eq3.true c.is_icon_of_three.ensures
-
-pub returns : goal.returns
-returns c = c.is_pilcrow.ensures ∙ private_other _ c.if-text-eq4.false c.if-text-eq3.false
+pub returns-in_default : goal.returns-in_default
+returns-in_default c =
+    elim c.in_default.branch [
+      | in_default-via-then-text-lt3 w ↦ c.is_pilcrow.ensures ∙ private_other _ (λ e. grind arith) (λ e. grind arith)
+      | in_default-via-else-text-lt3+else-text-lt4+else-text-lt5 w ↦ c.is_pilcrow.ensures ∙ private_other _ (λ e. grind arith) (λ e. grind arith)
+    ]

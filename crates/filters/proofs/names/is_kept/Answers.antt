@@ -1,21 +1,16 @@
 -- `names::is_kept` meets its contract.
-use mathlib.Core.Path.{sym, ◌∙◌}
+use mathlib.Core.Path.{◌∙◌}
 use native.Mathlib.Omega.{arith}
-use borrow.Author.Tests.{eq-eqb, ne_eqb}
 use Rattle.common.specs.Bytes.{codes}
-use Rattle.filters.proofs.NameLaws.{kept_numbered, kept_other}
-use Rattle.common.proofs.TestLaws.{or_yes, or_no}
+use Rattle.filters.proofs.NameLaws.{kept_yes, kept_no, kept_other}
 use Rattle.filters.proofs.names.is_kept.Goals as goal
 
-pub returns-then-tag-eq-MAIN : goal.returns-then-tag-eq-MAIN
-returns-then-tag-eq-MAIN c = or_yes _ (eq-eqb _ _ c.if-tag-eq-MAIN.true) ∙ kept_numbered c.args.name.now c.requires (λ z. omega arith)
+pub returns-in-33 : goal.returns-in-33
+returns-in-33 c = kept_yes c.args.name.now c.requires c.in-33.is
 
-pub returns-then-tag-eq-H1 : goal.returns-then-tag-eq-H1
-returns-then-tag-eq-H1 c = or_no _ (ne_eqb _ _ c.if-tag-eq-MAIN.false) (sym (eq-eqb _ _ c.if-tag-eq-H1.true)) ∙ kept_numbered c.args.name.now c.requires (λ z. omega arith)
-
-pub returns-then-tag-ne-OTHER : goal.returns-then-tag-ne-OTHER
-returns-then-tag-ne-OTHER c = or_no _ (ne_eqb _ _ c.if-tag-eq-MAIN.false) (sym (ne_eqb _ _ c.if-tag-eq-H1.false)) ∙ kept_numbered c.args.name.now c.requires c.if-tag-ne-OTHER.true
-
-pub returns : goal.returns
+pub returns-in-0 : goal.returns-in-0
 unfolding codes
-returns c = c.same.ensures ∙ kept_other c.args.name.now c.requires c.if-tag-ne-OTHER.false
+returns-in-0 c = c.same.ensures ∙ kept_other c.args.name.now c.requires c.in-0.is
+
+pub returns-in_default : goal.returns-in_default
+returns-in_default c = kept_no c.args.name.now c.requires (λ z. grind arith) (λ z. grind arith) (λ z. grind arith)

@@ -3,18 +3,15 @@ use mathlib.Core.Bool.{not}
 use mathlib.Core.Path.{ap}
 use native.Mathlib.Omega.{arith}
 use Rattle.common.specs.Bytes.{codes}
-use Rattle.filters.proofs.NameLaws.{not_block_cell, not_block_outside, not_block_inside, none_block, past_blocks, block_number}
+use Rattle.filters.proofs.NameLaws.{not_block_cell, not_block_outside, not_block_numbered, none_block}
 use Rattle.filters.proofs.names.not_block.Goals as goal
 
-pub returns-then-tag-eq-OTHER : goal.returns-then-tag-eq-OTHER
-returns-then-tag-eq-OTHER c = not_block_outside c.args.name.now c.requires (none_block c.if-tag-eq-OTHER.true) (λ z. omega arith)
+pub returns-in-0 : goal.returns-in-0
+returns-in-0 c = not_block_outside c.args.name.now c.requires (none_block c.in-0.is) (λ z. omega arith)
 
-pub returns-then-tag-gt-TABLE : goal.returns-then-tag-gt-TABLE
-returns-then-tag-gt-TABLE c = not_block_outside c.args.name.now c.requires (past_blocks c.if-tag-gt-TABLE.true) (λ z. omega arith)
-
-pub returns-then-tag-eq-CELL : goal.returns-then-tag-eq-CELL
+pub returns-in-2 : goal.returns-in-2
 unfolding codes
-returns-then-tag-eq-CELL c = not_block_cell c.args.name.now c.requires c.if-tag-eq-CELL.true (ap not c.same.ensures)
+returns-in-2 c = not_block_cell c.args.name.now c.requires c.in-2.is (ap not c.same.ensures)
 
-pub returns : goal.returns
-returns c = not_block_inside c.args.name.now c.requires (block_number c.if-tag-eq-OTHER.false c.if-tag-gt-TABLE.false c.if-tag-eq-CELL.false)
+pub returns-in_default : goal.returns-in_default
+returns-in_default c = not_block_numbered c.args.name.now c.requires (λ z. omega arith) (λ z. omega arith)

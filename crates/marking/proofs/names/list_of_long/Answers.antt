@@ -4,12 +4,7 @@ use Rattle.common.specs.Bytes.{codes, same}
 use Rattle.tags.specs.Words.{words, first_word, other_words, one_of}
 use Rattle.marking.specs.Lists.{list_of}
 use Rattle.marking.proofs.NameLaws.{list_at, long_none}
-use borrow.Author.Rules.{rules}
 use Rattle.marking.proofs.names.list_of_long.Goals as goal
-
-pub same-requires : goal.same-requires
-unfolding list_of words first_word other_words codes one_of same
-same-requires c = search rules
 
 pub returns-then-same : goal.returns-then-same
 unfolding list_of words first_word other_words codes one_of same
@@ -17,29 +12,17 @@ returns-then-same c =
     list_at c.args.name.now (codes "template")
     (sym c.same.ensures ∙ c.if-same.true) refl
 
-pub same-requires-2 : goal.same-requires-2
-unfolding list_of words first_word other_words codes one_of same
-same-requires-2 c = search rules
-
 pub returns-then-same-2 : goal.returns-then-same-2
 unfolding list_of words first_word other_words codes one_of same
 returns-then-same-2 c =
     list_at c.args.name.now (codes "noscript")
     (sym c.same-2.ensures ∙ c.if-same-2.true) refl
 
-pub same-requires-3 : goal.same-requires-3
-unfolding list_of words first_word other_words codes one_of same
-same-requires-3 c = search rules
-
 pub returns-then-same-3 : goal.returns-then-same-3
 unfolding list_of words first_word other_words codes one_of same
 returns-then-same-3 c =
     list_at c.args.name.now (codes "textarea")
     (sym c.same-3.ensures ∙ c.if-same-3.true) refl
-
-pub same-requires-4 : goal.same-requires-4
-unfolding list_of words first_word other_words codes one_of same
-same-requires-4 c = search rules
 
 pub returns-then-same-4 : goal.returns-then-same-4
 unfolding list_of words first_word other_words codes one_of same

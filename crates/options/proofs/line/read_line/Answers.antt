@@ -3,11 +3,5 @@ use mathlib.Core.Path.{sym, ◌∙◌}
 use Rattle.options.proofs.LineLaws.{line_long}
 use Rattle.options.proofs.line.read_line.Goals as goal
 
-pub returns-then-not-line_right : goal.returns-then-not-line_right
-returns-then-not-line_right c = simp (sym c.line_right.ensures ∙ c.if-not-line_right.true)
-
 pub options_in-requires : goal.options_in-requires
 options_in-requires c = line_long _ (sym c.line_right.ensures ∙ c.if-not-line_right.false)
-
-pub returns : goal.returns
-returns c = rw (c.options_in.ensures, sym c.line_right.ensures ∙ c.if-not-line_right.false)

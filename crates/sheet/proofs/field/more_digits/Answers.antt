@@ -8,9 +8,6 @@ use Rattle.sheet.proofs.field.more_digits.Goals as goal
 pub loop-i-init : goal.loop-i-init
 loop-i-init c = (omega arith, c.requires.0, c.requires.3, c.requires.4, refl)
 
-pub bounds-s-i : goal.bounds-s-i
-bounds-s-i c = omega arith
-
 pub returns-then-b-lt48 : goal.returns-then-b-lt48
 returns-then-b-lt48 c =
     let l = c.loop-i in
@@ -33,9 +30,6 @@ overflow_add-n c =
     let l = c.loop-i in
     omega (arith, digit_small a.s.now _ _ c.requires.1 _ l.invariant.2 c.loop-i-test.true l.invariant.3)
 
-pub overflow_add-i : goal.overflow_add-i
-overflow_add-i c = omega arith
-
 pub loop-i-smaller : goal.loop-i-smaller
 loop-i-smaller c = omega arith
 
@@ -46,8 +40,8 @@ loop-i-preserved c =
       omega arith,
       omega arith,
       omega arith,
-      digit_room a.s.now _ _ c.requires.1 _ l.invariant.2 c.loop-i-test.true (omega arith) l.invariant.3 c.if-b-gt57.false,
-      digit_more a.s.now _ _ c.requires.1 _ l.invariant.2 c.loop-i-test.true c.if-b-lt48.false c.if-b-gt57.false ∙ l.invariant.4,
+      rw c.from.ensures (digit_room a.s.now _ _ c.requires.1 _ l.invariant.2 c.loop-i-test.true (omega arith) l.invariant.3 c.if-b-gt57.false),
+      rw c.from.ensures (digit_more a.s.now _ _ c.requires.1 _ l.invariant.2 c.loop-i-test.true c.if-b-lt48.false c.if-b-gt57.false ∙ l.invariant.4),
     )
 
 pub returns : goal.returns

@@ -32,9 +32,9 @@ returns-then-b-eq48 c =
 pub more_digits-requires : goal.more_digits-requires
 more_digits-requires c =
     let p = c.skip_spaces-i.ensures in
-    (omega (arith, p.to, c.if-i-end.false), c.requires.0, omega (arith, p.from, p.to, c.requires.1), omega (arith, c.if-b-eq48.false, c.if-b-lt48.false), digit_fits _ _ c.if-b-gt57.false (omega (arith, p.from, p.to, c.requires.1)))
+    (omega (arith, p.to, c.if-i-end.false), c.requires.0, omega (arith, p.from, p.to, c.requires.1), omega (arith, c.from.ensures, c.if-b-eq48.false, c.if-b-lt48.false), rw c.from.ensures (digit_fits _ _ c.if-b-gt57.false (omega (arith, p.from, p.to, c.requires.1))))
 
 pub returns : goal.returns
 returns c =
     let a = c.args in
-    c.more_digits.ensures ∙ first_digit a.s.now a.at a.width _ c.requires.0 c.skip_spaces-i.ensures c.if-i-end.false c.if-b-lt48.false c.if-b-gt57.false
+    c.more_digits.ensures ∙ rw c.from.ensures (first_digit a.s.now a.at a.width _ c.requires.0 c.skip_spaces-i.ensures c.if-i-end.false c.if-b-lt48.false c.if-b-gt57.false)

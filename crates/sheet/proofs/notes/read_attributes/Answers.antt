@@ -41,24 +41,21 @@ read_short_line-requires c =
     let sized = c.requires.0 in
     (omega (arith, l.invariant.place, attribute_fits sized l.j c.loop-j-test.true), omega (arith, sized.width))
 
-pub returns-in-Bad : goal.returns-in-Bad
-returns-in-Bad c = attributes_bad _ _ c.loop-j.invariant c.loop-j-test.true (sym c.read_short_line.ensures ∙ c.in-Bad.is)
+pub returns-in_default : goal.returns-in_default
+returns-in_default c = attributes_bad _ _ c.loop-j.invariant c.loop-j-test.true (sym c.read_short_line.ensures ∙ c.in_default.is)
 
 pub note_attribute-n-requires : goal.note_attribute-n-requires
 note_attribute-n-requires c = let p = c.requires in pool_whole _ c.args.l (pool_start_law p.0) p.1
 
-pub overflow_add-at-in-Numbers : goal.overflow_add-at-in-Numbers
-overflow_add-at-in-Numbers c = let l = c.loop-j in omega (arith, l.invariant.place, attribute_fits c.requires.0 l.j c.loop-j-test.true)
-
-pub overflow_add-j : goal.overflow_add-j
-overflow_add-j c = omega (arith, c.loop-j-test.true, c.requires.0.attributes)
+pub overflow_add-at-in-loop-j : goal.overflow_add-at-in-loop-j
+overflow_add-at-in-loop-j c = let l = c.loop-j in omega (arith, l.invariant.place, attribute_fits c.requires.0 l.j c.loop-j-test.true)
 
 pub loop-j-smaller : goal.loop-j-smaller
 loop-j-smaller c = omega (arith, c.loop-j-test.true)
 
 pub loop-j-preserved : goal.loop-j-preserved
 loop-j-preserved c =
-    attributes_more _ _ c.loop-j.invariant c.loop-j-test.true (sym c.read_short_line.ensures ∙ c.in-Numbers.is) (pool_part _ c.args.l (pool_start_law c.requires.0)) c.note_attribute-n.ensures refl
+    attributes_more _ _ c.loop-j.invariant c.loop-j-test.true (sym c.read_short_line.ensures ∙ c.in-Some.is) (pool_part _ c.args.l (pool_start_law c.requires.0)) c.note_attribute-n.ensures refl
 
 pub returns : goal.returns
 returns c = attributes_end _ _ c.loop-j.invariant c.loop-j-test.false

@@ -29,20 +29,17 @@ read_node_line-requires c =
     let sized = c.requires.0 in
     (omega (arith, l.invariant.place, node_fits sized l.i c.loop-i-test.true), omega (arith, sized.width))
 
-pub returns-in-Bad : goal.returns-in-Bad
-returns-in-Bad c = nodes_bad _ _ c.requires.0 c.loop-i.invariant c.loop-i-test.true (sym c.read_node_line.ensures ∙ c.in-Bad.is)
+pub returns-in_default : goal.returns-in_default
+returns-in_default c = nodes_bad _ _ c.requires.0 c.loop-i.invariant c.loop-i-test.true (sym c.read_node_line.ensures ∙ c.in_default.is)
 
 pub note_row-n-requires : goal.note_row-n-requires
 note_row-n-requires c =
     let l = c.loop-i in
     let p = c.requires in
-    (pool_whole _ c.args.l (pool_start_law p.0) p.1, omega (arith, l.invariant.small, l.invariant.within, p.0.nodes, count_small _ _ p.0 l.invariant c.loop-i-test.true (sym c.read_node_line.ensures ∙ c.in-Numbers.is)))
+    (pool_whole _ c.args.l (pool_start_law p.0) p.1, omega (arith, l.invariant.small, l.invariant.within, p.0.nodes, count_small _ _ p.0 l.invariant c.loop-i-test.true (sym c.read_node_line.ensures ∙ c.in-Some.is)))
 
-pub overflow_add-at-in-Numbers : goal.overflow_add-at-in-Numbers
-overflow_add-at-in-Numbers c = let l = c.loop-i in omega (arith, l.invariant.place, node_fits c.requires.0 l.i c.loop-i-test.true)
-
-pub overflow_add-i : goal.overflow_add-i
-overflow_add-i c = omega (arith, c.loop-i-test.true, c.requires.0.nodes)
+pub overflow_add-at-in-loop-i : goal.overflow_add-at-in-loop-i
+overflow_add-at-in-loop-i c = let l = c.loop-i in omega (arith, l.invariant.place, node_fits c.requires.0 l.i c.loop-i-test.true)
 
 pub loop-i-smaller : goal.loop-i-smaller
 loop-i-smaller c = omega (arith, c.loop-i-test.true)
@@ -50,7 +47,7 @@ loop-i-smaller c = omega (arith, c.loop-i-test.true)
 pub loop-i-preserved : goal.loop-i-preserved
 loop-i-preserved c =
     let sized = c.requires.0 in
-    nodes_more _ _ sized c.loop-i.invariant c.loop-i-test.true (sym c.read_node_line.ensures ∙ c.in-Numbers.is) (pool_part _ c.args.l (pool_start_law sized)) c.note_row-n.ensures refl
+    nodes_more _ _ sized c.loop-i.invariant c.loop-i-test.true (sym c.read_node_line.ensures ∙ c.in-Some.is) (pool_part _ c.args.l (pool_start_law sized)) c.note_row-n.ensures refl
 
 pub returns : goal.returns
 returns c = nodes_end _ _ c.loop-i.invariant c.loop-i-test.false

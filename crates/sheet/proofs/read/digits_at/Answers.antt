@@ -23,14 +23,8 @@ loop-i-init c = (omega arith, omega arith, digits_none _, refl)
 pub overflow_mul-n : goal.overflow_mul-n
 overflow_mul-n c = omega (arith, digits_small _ _ c.loop-i.invariant.2 (omega arith))
 
-pub bounds-s-i : goal.bounds-s-i
-bounds-s-i c = omega arith
-
 pub overflow_add-n : goal.overflow_add-n
 overflow_add-n c = omega (arith, digits_small _ _ c.loop-i.invariant.2 (omega arith))
-
-pub overflow_add-i : goal.overflow_add-i
-overflow_add-i c = omega arith
 
 pub loop-i-smaller : goal.loop-i-smaller
 loop-i-smaller c = omega arith
@@ -39,7 +33,7 @@ pub loop-i-preserved : goal.loop-i-preserved
 loop-i-preserved c =
     let p = c.requires in
     let l = c.loop-i in
-    (omega arith, omega arith, digits_room _ _ _ _ l.invariant.2 l.invariant.0, plain_more _ _ _ p.0 _ c.loop-i-test.true ∙ l.invariant.3)
+    (omega arith, omega arith, rw c.from.ensures (digits_room _ _ _ _ l.invariant.2 l.invariant.0), rw c.from.ensures (plain_more _ _ _ p.0 _ c.loop-i-test.true ∙ l.invariant.3))
 
 pub returns : goal.returns
 returns c =

@@ -1,11 +1,7 @@
 -- `tests::note` meets its contract.
+use mathlib.Core.Path.{sym, ◌∙◌}
+use Rattle.sheet.proofs.FirstWrong.{note_new}
 use Rattle.sheet.proofs.tests.note.Goals as goal
 
-pub returns-then-right : goal.returns-then-right
-returns-then-right c = rw (c.in-Nothing.is, c.if-right.true)
-
-pub returns-in-At : goal.returns-in-At
-returns-in-At c = rw c.in-At.is
-
-pub returns-else-right : goal.returns-else-right
-returns-else-right c = rw (c.in-Nothing.is, c.if-right.false)
+pub returns : goal.returns
+returns c = note_new _ _ _ c.if-right.false (sym c.is_some.ensures ∙ c.if-is_some.false)

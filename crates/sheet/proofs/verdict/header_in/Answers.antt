@@ -1,6 +1,8 @@
 -- `verdict::header_in` meets its contract.
+use Rattle.std.specs.Prelude.{Err}
+use Prim.Native.Nat.{ℕ}
 use mathlib.Core.Path.{sym, ap, ◌∙◌}
-use Rattle.sheet.specs.declared.verdict.Verdict.TheVariants.{Length}
+use Rattle.sheet.specs.declared.verdict.SheetError.TheVariants.{Length}
 use Rattle.sheet.proofs.Header.{counted, header_short, header_bad, header_counts, header_length_law, header_sheet}
 use Rattle.sheet.proofs.verdict.header_in.Goals as goal
 
@@ -11,7 +13,7 @@ pub returns-in_default : goal.returns-in_default
 returns-in_default c = header_bad _ _ c.if-s-header.false (sym c.read_short_line.ensures ∙ c.in_default.is)
 
 pub returns-then-not-counts_right : goal.returns-then-not-counts_right
-returns-then-not-counts_right c = header_counts _ _ c.if-s-header.false (sym c.read_short_line.ensures ∙ c.in-Numbers.is) (sym c.counts_right.ensures ∙ c.if-not-counts_right.true)
+returns-then-not-counts_right c = header_counts _ _ c.if-s-header.false (sym c.read_short_line.ensures ∙ c.in-Some.is) (sym c.counts_right.ensures ∙ c.if-not-counts_right.true)
 
 pub size_of-size-requires : goal.size_of-size-requires
 size_of-size-requires c =
@@ -20,9 +22,9 @@ size_of-size-requires c =
 
 pub returns-then-s-size : goal.returns-then-s-size
 returns-then-s-size c =
-    ap Length c.size_of-size.ensures
-    ∙ header_length_law _ _ c.if-s-header.false (sym c.read_short_line.ensures ∙ c.in-Numbers.is) (sym c.counts_right.ensures ∙ c.if-not-counts_right.false) (λ e. c.if-s-size.true (e ∙ sym c.size_of-size.ensures))
+    ap (λ (n : ℕ). Err (Length n)) c.size_of-size.ensures
+    ∙ header_length_law _ _ c.if-s-header.false (sym c.read_short_line.ensures ∙ c.in-Some.is) (sym c.counts_right.ensures ∙ c.if-not-counts_right.false) (λ e. c.if-s-size.true (e ∙ sym c.size_of-size.ensures))
 
 pub returns : goal.returns
 returns c =
-    header_sheet _ _ c.if-s-header.false (sym c.read_short_line.ensures ∙ c.in-Numbers.is) (sym c.counts_right.ensures ∙ c.if-not-counts_right.false) (c.if-s-size.false ∙ c.size_of-size.ensures)
+    header_sheet _ _ c.if-s-header.false (sym c.read_short_line.ensures ∙ c.in-Some.is) (sym c.counts_right.ensures ∙ c.if-not-counts_right.false) (c.if-s-size.false ∙ c.size_of-size.ensures)

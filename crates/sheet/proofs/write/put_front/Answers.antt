@@ -7,9 +7,6 @@ use Rattle.sheet.proofs.write.put_front.Goals as goal
 pub loop-left-init : goal.loop-left-init
 loop-left-init c = fronting_start
 
-pub overflow_sub-left : goal.overflow_sub-left
-overflow_sub-left c = omega arith
-
 pub overflow_add-out : goal.overflow_add-out
 overflow_add-out c = omega (arith, c.loop-left.invariant.most)
 

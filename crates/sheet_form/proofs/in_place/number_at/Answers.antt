@@ -6,18 +6,6 @@ use Rattle.sheet.proofs.LinedLaws.{node_line}
 use Rattle.sheet_form.proofs.NumberBytes.{number_place, number_read}
 use Rattle.sheet_form.proofs.in_place.number_at.Goals as goal
 
-pub overflow_mul-at-3 : goal.overflow_mul-at-3
-overflow_mul-at-3 c = let p = c.requires in omega (arith, number_place p.0 _ _ p.1 p.2)
-
-pub overflow_add-at-3 : goal.overflow_add-at-3
-overflow_add-at-3 c = let p = c.requires in omega (arith, number_place p.0 _ _ p.1 p.2)
-
-pub overflow_mul-at-4 : goal.overflow_mul-at-4
-overflow_mul-at-4 c = let p = c.requires in omega (arith, number_place p.0 _ _ p.1 p.2)
-
-pub overflow_add-at-4 : goal.overflow_add-at-4
-overflow_add-at-4 c = let p = c.requires in omega (arith, number_place p.0 _ _ p.1 p.2)
-
 pub digits_at-requires : goal.digits_at-requires
 digits_at-requires c =
     let p = c.requires in

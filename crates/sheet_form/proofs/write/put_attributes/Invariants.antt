@@ -1,6 +1,5 @@
 -- `write::put_attributes` meets its contract.
 use mathlib.Core.Path.{refl}
-use Prim.Native.Nat.{◌-◌, ◌≤◌}
 use Rattle.common.proofs.Puts.{Putting}
 use Rattle.sheet.specs.Layout.{attribute_at}
 use Rattle.sheet_form.specs.Decoded.{attribute_numbers}
@@ -9,7 +8,4 @@ use Rattle.sheet_form.proofs.write.put_attributes.Given as goal
 
 abbrev pub invariant-loop-j : goal.invariant-loop-j
 invariant-loop-j l =
-    (l.j ≤ l.l.attributes) × Putting l.initial.out l.at-2 (whole attribute_numbers 4 l.width (λ r. refl) (attribute_at l.s l.l) l.l.attributes) l.out l.at (left attribute_numbers 4 l.width (λ r. refl) (attribute_at l.s l.l) l.l.attributes l.j)
-
-abbrev pub decreases-loop-j : goal.decreases-loop-j
-decreases-loop-j l = l.l.attributes - l.j
+    Putting l.initial.out l.at-2 (whole attribute_numbers 4 l.width (λ r. refl) (attribute_at l.s l.l) l.l.attributes) l.out l.at (left attribute_numbers 4 l.width (λ r. refl) (attribute_at l.s l.l) l.l.attributes l.j)

@@ -15,9 +15,6 @@ overflow_add-n c =
     let l = c.loop-j in
     omega (arith, l.invariant.1, counts_fit _ _ c.requires.0 l.j (omega arith) c.row_at-r.ensures, c.requires.0.sized.attributes)
 
-pub overflow_add-j : goal.overflow_add-j
-overflow_add-j c = omega (arith, c.requires.0.sized.nodes)
-
 pub loop-j-smaller : goal.loop-j-smaller
 loop-j-smaller c = omega arith
 

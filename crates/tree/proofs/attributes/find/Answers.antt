@@ -21,9 +21,6 @@ returns-then-same c =
     let l = c.loop-j in
     find_found _ _ _ _ _ _ c.loop-j-test.true c.attribute_at-a.ensures c.part.ensures (sym c.same.ensures ∙ c.if-same.true) ∙ l.invariant.1
 
-pub overflow_add-j : goal.overflow_add-j
-overflow_add-j c = omega arith
-
 pub loop-j-smaller : goal.loop-j-smaller
 loop-j-smaller c = omega arith
 

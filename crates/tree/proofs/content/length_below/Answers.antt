@@ -13,9 +13,6 @@ use Rattle.tree.proofs.content.length_below.Goals as goal
 pub depth_at-d-requires : goal.depth_at-d-requires
 depth_at-d-requires c = (c.requires.0.lined, c.requires.1)
 
-pub overflow_add-j : goal.overflow_add-j
-overflow_add-j c = omega (arith, c.requires.0.sized.nodes)
-
 pub loop-j-init : goal.loop-j-init
 loop-j-init c =
     let a = c.args in
@@ -29,9 +26,6 @@ returns-then-depth_at-d c = length_stop _ _ _ _ _ c.loop-j.p c.loop-j.invariant.
 
 pub add_row-p-requires : goal.add_row-p-requires
 add_row-p-requires c = (c.requires.0, c.loop-j-test.true, omega (arith, c.loop-j.invariant.1, length_small c.requires.0 _ c.requires.1))
-
-pub overflow_add-j-in-loop-j : goal.overflow_add-j-in-loop-j
-overflow_add-j-in-loop-j c = omega arith
 
 pub loop-j-smaller : goal.loop-j-smaller
 loop-j-smaller c = omega arith

@@ -1,18 +1,16 @@
 -- `questions::parent_of` meets its contract.
-use mathlib.Core.Path.{refl, sym, ap, ◌∙◌}
+use Rattle.std.specs.Prelude.{Ok}
+use mathlib.Core.Path.{sym, ap, ◌∙◌}
+use Rattle.common.proofs.PassedOn.{passed_on}
 use Rattle.sheet.specs.Column.{parent_of}
-use Rattle.tree.specs.Questions.{from_found}
 use Rattle.tree.proofs.QuestionsLaws.{asked_known, relative_is}
 use Rattle.tree.proofs.questions.parent_of.Goals as goal
 
+pub returns-in_err-l : goal.returns-in_err-l
+returns-in_err-l c = relative_is parent_of _ _ (passed_on c.from_residual.result c.from_residual.ensures.1) (sym c.in_err-l.was ∙ c.ask.ensures)
+
 pub parent-requires : goal.parent-requires
-parent-requires c = let known = asked_known _ _ (sym c.in-Of.is ∙ c.ask.ensures) in (known.0, known.1)
+parent-requires c = let known = asked_known _ _ (sym c.in_ok-l.was ∙ c.ask.ensures) in (known.0, known.1)
 
-pub returns-in-Of : goal.returns-in-Of
-returns-in-Of c = relative_is parent_of _ _ (c.from_found.ensures ∙ ap from_found c.parent.ensures) (sym c.in-Of.is ∙ c.ask.ensures)
-
-pub returns-in-NoRow : goal.returns-in-NoRow
-returns-in-NoRow c = relative_is parent_of _ _ refl (sym c.in-NoRow.is ∙ c.ask.ensures)
-
-pub returns-in-Refused : goal.returns-in-Refused
-returns-in-Refused c = relative_is parent_of _ _ refl (sym c.in-Refused.is ∙ c.ask.ensures)
+pub returns : goal.returns
+returns c = relative_is parent_of _ _ (ap Ok c.parent.ensures) (sym c.in_ok-l.was ∙ c.ask.ensures)

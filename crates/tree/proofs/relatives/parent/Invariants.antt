@@ -5,8 +5,8 @@ use Rattle.sheet.specs.Column.{last_above, parent_of}
 use Rattle.sheet.specs.Layout.{depths}
 use Rattle.tree.proofs.relatives.parent.Given as goal
 
-abbrev pub invariant-loop-j : goal.invariant-loop-j
-invariant-loop-j l = (l.j ≤ l.i) × (last_above (depths l.s l.l) l.d l.j ≡ parent_of (depths l.s l.l) l.i)
+abbrev pub invariant-loop-above : goal.invariant-loop-above
+invariant-loop-above l = (l.above ≤ l.i) × (last_above (depths l.s l.l) l.d l.above ≡ parent_of (depths l.s l.l) l.i)
 
-abbrev pub decreases-loop-j : goal.decreases-loop-j
-decreases-loop-j l = l.j
+abbrev pub decreases-loop-above : goal.decreases-loop-above
+decreases-loop-above l = l.above

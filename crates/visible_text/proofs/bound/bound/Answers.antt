@@ -6,19 +6,13 @@ use Rattle.visible_text.proofs.bound.bound.Goals as goal
 pub depth_at-d-requires : goal.depth_at-d-requires
 depth_at-d-requires c = (c.requires.0.lined, c.requires.1)
 
-pub overflow_add-j : goal.overflow_add-j
-overflow_add-j c = omega (arith, c.requires.0.sized.nodes, c.requires.1)
-
-pub loop-j-init : goal.loop-j-init
-loop-j-init c = (omega (arith, c.requires.1), omega arith)
-
 pub depth_at-requires : goal.depth_at-requires
 depth_at-requires c = (c.requires.0.lined, c.loop-j-test.true)
 
 pub returns-then-depth_at-d : goal.returns-then-depth_at-d
 returns-then-depth_at-d c =
     let p = c.requires in
-    sum_enough p.0 p.1 c.depth_at-d.ensures _ _ c.loop-j.invariant.1
+    sum_enough p.0 p.1 c.depth_at-d.ensures _ _ c.loop-j.invariant
     (left_stop _ _ _ _ c.loop-j-test.true c.depth_at.ensures c.if-depth_at-d.true)
 
 pub value_len_at-requires : goal.value_len_at-requires
@@ -30,7 +24,7 @@ overflow_add-n c =
     let t = c.loop-j-test.true in
     let d = c.depth_at-d.ensures in
     let more = left_more _ _ _ _ t c.depth_at.ensures c.if-depth_at-d.false in
-    omega (arith, sum_room p.0 p.1 d _ _ c.loop-j.invariant.1 more, c.value_len_at.ensures)
+    omega (arith, sum_room p.0 p.1 d _ _ c.loop-j.invariant more, c.value_len_at.ensures)
 
 pub overflow_add-n-in-loop-j : goal.overflow_add-n-in-loop-j
 overflow_add-n-in-loop-j c =
@@ -38,23 +32,14 @@ overflow_add-n-in-loop-j c =
     let t = c.loop-j-test.true in
     let d = c.depth_at-d.ensures in
     let more = left_more _ _ _ _ t c.depth_at.ensures c.if-depth_at-d.false in
-    omega (arith, sum_room p.0 p.1 d _ _ c.loop-j.invariant.1 more, c.value_len_at.ensures)
-
-pub overflow_add-j-in-loop-j : goal.overflow_add-j-in-loop-j
-overflow_add-j-in-loop-j c =
-    let p = c.requires in
-    omega (arith, c.loop-j-test.true, p.0.sized.nodes)
-
-pub loop-j-smaller : goal.loop-j-smaller
-loop-j-smaller c = omega (arith, c.loop-j-test.true)
+    omega (arith, sum_room p.0 p.1 d _ _ c.loop-j.invariant more, c.value_len_at.ensures)
 
 pub loop-j-preserved : goal.loop-j-preserved
 loop-j-preserved c =
-    let t = c.loop-j-test.true in
-    let more = left_more _ _ _ _ t c.depth_at.ensures c.if-depth_at-d.false in
-    (omega arith, omega (arith, c.loop-j.invariant.1, more, c.value_len_at.ensures))
+    let more = left_more _ _ _ _ c.loop-j-test.true c.depth_at.ensures c.if-depth_at-d.false in
+    omega (arith, c.loop-j.invariant, more, c.value_len_at.ensures)
 
 pub returns : goal.returns
 returns c =
     let p = c.requires in
-    sum_enough p.0 p.1 c.depth_at-d.ensures _ _ c.loop-j.invariant.1 (left_done _ _ _ _ c.loop-j-test.false)
+    sum_enough p.0 p.1 c.depth_at-d.ensures _ _ c.loop-j.invariant (left_done _ _ _ _ c.loop-j-test.false)

@@ -21,31 +21,18 @@ unfolding ends_of
 ends_none steps n left h o = let e : n - left ≡ 0 = omega arith in rw e
 
 pub loop-n-init : goal.loop-n-init
-loop-n-init c = (omega arith, left_start _ (λ o. refl))
-
-pub overflow_sub-n : goal.overflow_sub-n
-overflow_sub-n c = omega (arith, c.loop-n-test.true)
-
-pub bounds-steps-n : goal.bounds-steps-n
-bounds-steps-n c = omega (arith, c.loop-n-test.true, c.loop-n.invariant.0, c.requires.0)
+loop-n-init c = left_start _ (λ o. refl)
 
 pub insert_block-q-requires : goal.insert_block-q-requires
 insert_block-q-requires c =
-    left_part c.loop-n.invariant.1 _ _ (ends_more _ _ _ c.loop-n-test.true) (ends_rise _ _ _)
+    left_part c.loop-n.invariant _ _ (ends_more _ _ _ c.loop-n-test.true) (ends_rise _ _ _)
     c.requires.1
 
-pub loop-n-smaller : goal.loop-n-smaller
-loop-n-smaller c = omega (arith, c.loop-n-test.true)
-
 pub loop-n-preserved : goal.loop-n-preserved
-loop-n-preserved c = (
-  omega (arith, c.loop-n.invariant.0),
-  left_more c.loop-n.invariant.1 _ c.insert_block-q.ensures
-      (ends_more _ _ _ c.loop-n-test.true),
-)
+loop-n-preserved c = left_more c.loop-n.invariant _ c.insert_block-q.ensures (ends_more _ _ _ c.loop-n-test.true)
 
 pub shape_of-out : goal.shape_of-out
-shape_of-out c = left_length c.loop-n.invariant.1 c.requires.1
+shape_of-out c = left_length c.loop-n.invariant c.requires.1
 
 pub returns : goal.returns
-returns c = left_done c.loop-n.invariant.1 (ends_none _ _ _ c.loop-n-test.false)
+returns c = left_done c.loop-n.invariant (ends_none _ _ _ c.loop-n-test.false)

@@ -1,5 +1,5 @@
 -- `end_rows` meets its contract.
-use Prim.Native.Nat.{◌-◌, ◌≤◌}
+use Prim.Native.Nat.{◌-◌}
 use Rattle.text.specs.Text.{is_ascii_whitespace}
 use Rattle.visible_text.specs.Inner.{ends_of}
 use Rattle.visible_text.proofs.LeftLaws.{Left}
@@ -7,7 +7,4 @@ use Rattle.visible_text.proofs.rows.end_rows.Given as goal
 
 abbrev pub invariant-loop-n : goal.invariant-loop-n
 invariant-loop-n l =
-    (l.n ≤ l.count) × Left is_ascii_whitespace l.write l.initial.q l.initial.out (ends_of l.steps l.count (l.count - l.left)) l.q l.out (ends_of l.steps l.n (l.n - l.left))
-
-abbrev pub decreases-loop-n : goal.decreases-loop-n
-decreases-loop-n l = l.n
+    Left is_ascii_whitespace l.write l.initial.q l.initial.out (ends_of l.steps l.count (l.count - l.left)) l.q l.out (ends_of l.steps l.n (l.n - l.left))

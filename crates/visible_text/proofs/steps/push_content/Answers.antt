@@ -2,10 +2,8 @@
 use mathlib.Core.Path.{◌≡◌, refl, ap, ◌∙◌}
 use mathlib.Core.List.{List, []}
 use Prim.Native.Nat.{ℕ, ◌+◌, ◌<◌}
-use native.Mathlib.Omega.{arith}
 use lib.ListN.{length, get_or}
 use Rattle.common.specs.Bytes.{Bytes}
-use Rattle.sheet.specs.Layout.{depths}
 use Rattle.tree.specs.Node.{Node}
 use Rattle.tree.specs.TextContent.{text_data}
 use Rattle.tree.proofs.Column.{below_length, past_length, depth_is}
@@ -32,11 +30,8 @@ module _ (node_of : ℕ → Node) (depths : List ℕ) (d j : ℕ) where
 pub depth_at-d-requires : goal.depth_at-d-requires
 depth_at-d-requires c = (c.requires.accepted.0.lined, c.requires.accepted.1)
 
-pub overflow_add-j : goal.overflow_add-j
-overflow_add-j c = omega (arith, c.requires.accepted.0.sized.nodes, c.requires.accepted.1)
-
 pub loop-j-init : goal.loop-j-init
-loop-j-init c = (omega (arith, c.requires.accepted.1), left_start _ (λ o. refl))
+loop-j-init c = left_start _ (λ o. refl)
 
 pub depth_at-requires : goal.depth_at-requires
 depth_at-requires c = (c.requires.accepted.0.lined, c.loop-j-test.true)
@@ -44,7 +39,7 @@ depth_at-requires c = (c.requires.accepted.0.lined, c.loop-j-test.true)
 pub shape_of-out-then-depth_at-d : goal.shape_of-out-then-depth_at-d
 shape_of-out-then-depth_at-d c =
     let p = c.requires in
-    left_length c.loop-j.invariant.1
+    left_length c.loop-j.invariant
     (ready_same (content_below p.accepted.0 p.accepted.1 p.accepted.2 c.depth_at-d.ensures) p.ready_by)
 
 pub returns-then-depth_at-d : goal.returns-then-depth_at-d
@@ -52,7 +47,7 @@ returns-then-depth_at-d c =
     let p = c.requires in
     let t = c.loop-j-test.true in
     does_same (content_below p.accepted.0 p.accepted.1 p.accepted.2 c.depth_at-d.ensures)
-    (left_done c.loop-j.invariant.1
+    (left_done c.loop-j.invariant
     (rest_none _ _ _ _ (text_below_stop _ _ _ _ _ (below_length _ _ _ t) (depth_is _ _ _ t c.depth_at.ensures)
     c.if-depth_at-d.true)))
 
@@ -62,40 +57,26 @@ push_data-q-requires c =
     let t = c.loop-j-test.true in
     record {
       accepted = (p.accepted.0, t);
-      ready_by = left_part c.loop-j.invariant.1 _ _
+      ready_by = left_part c.loop-j.invariant _ _
           (rest_more _ _ _ _ _ (below_length _ _ _ t) (depth_is _ _ _ t c.depth_at.ensures) c.if-depth_at-d.false)
           (grows_push_all _)
           (ready_same (content_below p.accepted.0 p.accepted.1 p.accepted.2 c.depth_at-d.ensures) p.ready_by);
     }
 
-pub overflow_add-j-in-loop-j : goal.overflow_add-j-in-loop-j
-overflow_add-j-in-loop-j c =
-    omega (
-      arith,
-      c.loop-j-test.true,
-      c.requires.accepted.0.sized.nodes,
-    )
-
-pub loop-j-smaller : goal.loop-j-smaller
-loop-j-smaller c = omega (arith, c.loop-j-test.true)
-
 pub loop-j-preserved : goal.loop-j-preserved
 loop-j-preserved c =
-    let t = c.loop-j-test.true in (
-      omega arith,
-      left_more c.loop-j.invariant.1 _ c.push_data-q.ensures
-          (rest_more _ _ _ _ _ (below_length _ _ _ t) (depth_is _ _ _ t c.depth_at.ensures)
-          c.if-depth_at-d.false),
-    )
+    let t = c.loop-j-test.true in
+    left_more c.loop-j.invariant _ c.push_data-q.ensures
+    (rest_more _ _ _ _ _ (below_length _ _ _ t) (depth_is _ _ _ t c.depth_at.ensures) c.if-depth_at-d.false)
 
 pub shape_of-out : goal.shape_of-out
 shape_of-out c =
     let p = c.requires in
-    left_length c.loop-j.invariant.1
+    left_length c.loop-j.invariant
     (ready_same (content_below p.accepted.0 p.accepted.1 p.accepted.2 c.depth_at-d.ensures) p.ready_by)
 
 pub returns : goal.returns
 returns c =
     let p = c.requires in
     does_same (content_below p.accepted.0 p.accepted.1 p.accepted.2 c.depth_at-d.ensures)
-    (left_done c.loop-j.invariant.1 (rest_none _ _ _ _ (text_below_done _ _ _ _ (past_length _ _ _ c.loop-j-test.false))))
+    (left_done c.loop-j.invariant (rest_none _ _ _ _ (text_below_done _ _ _ _ (past_length _ _ _ c.loop-j-test.false))))

@@ -1,6 +1,6 @@
 -- `push_content` meets its contract.
 use mathlib.Core.List.{List}
-use Prim.Native.Nat.{ℕ, ◌+◌, ◌-◌, ◌≤◌}
+use Prim.Native.Nat.{ℕ, ◌+◌}
 use Rattle.sheet.specs.Layout.{depths}
 use Rattle.text.specs.Text.{is_ascii_whitespace}
 use Rattle.tree.specs.Node.{Node}
@@ -16,7 +16,4 @@ rest node_of depths d j = push_all (text_below node_of depths d j)
 
 abbrev pub invariant-loop-j : goal.invariant-loop-j
 invariant-loop-j l =
-    (l.j ≤ l.nodes) × Left is_ascii_whitespace l.write l.initial.q l.initial.out (rest (node_at l.s l.l) (depths l.s l.l) l.d (l.i + 1)) l.q l.out (rest (node_at l.s l.l) (depths l.s l.l) l.d l.j)
-
-abbrev pub decreases-loop-j : goal.decreases-loop-j
-decreases-loop-j l = l.nodes - l.j
+    Left is_ascii_whitespace l.write l.initial.q l.initial.out (rest (node_at l.s l.l) (depths l.s l.l) l.d (l.i + 1)) l.q l.out (rest (node_at l.s l.l) (depths l.s l.l) l.d l.j)

@@ -11,9 +11,6 @@ use Rattle.visible_text.proofs.texts.push_collapsed.Goals as goal
 pub loop-i-init : goal.loop-i-init
 loop-i-init c = (omega arith, left_start _ (λ o. refl))
 
-pub overflow_sub-s : goal.overflow_sub-s
-overflow_sub-s c = omega arith
-
 pub push_eight-q-requires : goal.push_eight-q-requires
 unfolding collapse_by
 push_eight-q-requires c =
@@ -23,33 +20,12 @@ push_eight-q-requires c =
           (grows_push_all _) c.requires;
     }
 
-pub overflow_add-i : goal.overflow_add-i
-overflow_add-i c = omega arith
-
-pub bounds-s-i : goal.bounds-s-i
-bounds-s-i c = omega arith
-
-pub overflow_add-i-in-loop-i : goal.overflow_add-i-in-loop-i
-overflow_add-i-in-loop-i c = omega arith
-
-pub loop-i-smaller : goal.loop-i-smaller
-loop-i-smaller c = omega arith
-
 pub loop-i-preserved : goal.loop-i-preserved
 loop-i-preserved c = (
   omega arith,
   left_more c.loop-i.invariant.1 _ c.push_eight-q.ensures
       (rest_eight c.loop-i.space c.args.s.now c.loop-i.i (omega arith) c.is_blank-space.ensures),
 )
-
-pub slice_bounds-push_bytes-count : goal.slice_bounds-push_bytes-count
-slice_bounds-push_bytes-count c = omega arith
-
-pub slice_bounds-push_bytes-start : goal.slice_bounds-push_bytes-start
-slice_bounds-push_bytes-start c = omega arith
-
-pub slice_bounds-push_bytes-end : goal.slice_bounds-push_bytes-end
-slice_bounds-push_bytes-end c = omega arith
 
 pub push_bytes-requires : goal.push_bytes-requires
 unfolding collapse_by

@@ -8,9 +8,6 @@ use Rattle.walk.proofs.names.class_and_id.Goals as goal
 pub loop-n-init : goal.loop-n-init
 loop-n-init c = (length_start _ _ _ _ _, length_start _ _ _ _ _)
 
-pub overflow_sub-n : goal.overflow_sub-n
-overflow_sub-n c = omega arith
-
 pub overflow_add-from : goal.overflow_add-from
 overflow_add-from c = omega (arith, c.requires.0.sized.attributes)
 
@@ -19,9 +16,6 @@ attribute_at-a-requires c = (c.requires.0.lined, omega arith)
 
 pub part-name-requires : goal.part-name-requires
 part-name-requires c = (c.requires.0.lined, name_fits _ _ c.requires.0 _ (omega arith) c.attribute_at-a.ensures)
-
-pub overflow_sub-n-in-loop-n : goal.overflow_sub-n-in-loop-n
-overflow_sub-n-in-loop-n c = omega arith
 
 pub loop-n-smaller : goal.loop-n-smaller
 loop-n-smaller c = omega arith

@@ -15,5 +15,5 @@ slice_bounds-tag_of-end c = omega (arith, c.requires.0, c.requires.1.size, c.req
 pub returns-then-r-eq1 : goal.returns-then-r-eq1
 returns-then-r-eq1 c = λ i e. element_tag _ _ i e c.tag_of.ensures c.if-r-eq1.true (name_part _ c.args.l _ _ _ c.requires.0)
 
-pub returns : goal.returns
-returns c = λ i e. other_tag _ _ i e c.if-r-eq1.false
+pub returns-else-r-eq1 : goal.returns-else-r-eq1
+returns-else-r-eq1 c = λ i e. other_tag _ _ i e c.if-r-eq1.false

@@ -49,7 +49,7 @@ pub returns-in_default : goal.returns-in_default
 returns-in_default c = record { accepted = taking_bad c.loop-i.invariant c.loop-i-test.true c.requires.sized.0 (sym c.row_in.ensures ∙ c.in_default.is); rows = λ e. absurd_test e refl }
 
 pub overflow_cast-depths : goal.overflow_cast-depths
-overflow_cast-depths c = omega (arith, (taken_facts c.loop-i.invariant c.loop-i-test.true (sym c.row_in.ensures ∙ c.in-Numbers.is) c.requires.sized.0).deep)
+overflow_cast-depths c = omega (arith, (taken_facts c.loop-i.invariant c.loop-i-test.true (sym c.row_in.ensures ∙ c.in-Some.is) c.requires.sized.0).deep)
 
 pub offset_bounds-depths-i : goal.offset_bounds-depths-i
 offset_bounds-depths-i c = omega (arith, c.loop-i-test.true, c.requires.sized.0.nodes)
@@ -58,7 +58,7 @@ pub bounds-depths-i : goal.bounds-depths-i
 bounds-depths-i c = (room_at c.loop-i.invariant.reading c.requires.columns c.loop-i-test.true).depths_long
 
 pub tag_in-requires : goal.tag_in-requires
-tag_in-requires c = (pool_start_law c.requires.sized.0, c.requires.sized.0, (taken_facts c.loop-i.invariant c.loop-i-test.true (sym c.row_in.ensures ∙ c.in-Numbers.is) c.requires.sized.0).name)
+tag_in-requires c = (pool_start_law c.requires.sized.0, c.requires.sized.0, (taken_facts c.loop-i.invariant c.loop-i-test.true (sym c.row_in.ensures ∙ c.in-Some.is) c.requires.sized.0).name)
 
 pub bounds-tags-i : goal.bounds-tags-i
 bounds-tags-i c = (room_at c.loop-i.invariant.reading c.requires.columns c.loop-i-test.true).tags_long
@@ -73,7 +73,7 @@ pub bounds-attributes-i : goal.bounds-attributes-i
 bounds-attributes-i c = (room_at c.loop-i.invariant.reading c.requires.columns c.loop-i-test.true).attributes_long
 
 pub overflow_cast-values : goal.overflow_cast-values
-overflow_cast-values c = omega (arith, (taken_facts c.loop-i.invariant c.loop-i-test.true (sym c.row_in.ensures ∙ c.in-Numbers.is) c.requires.sized.0).value, c.requires.sized.0.pool)
+overflow_cast-values c = omega (arith, (taken_facts c.loop-i.invariant c.loop-i-test.true (sym c.row_in.ensures ∙ c.in-Some.is) c.requires.sized.0).value, c.requires.sized.0.pool)
 
 pub offset_bounds-values-i : goal.offset_bounds-values-i
 offset_bounds-values-i c = omega (arith, c.loop-i-test.true, c.requires.sized.0.nodes)
@@ -82,7 +82,7 @@ pub bounds-values-i : goal.bounds-values-i
 bounds-values-i c = (room_at c.loop-i.invariant.reading c.requires.columns c.loop-i-test.true).values_long
 
 pub overflow_cast-lengths : goal.overflow_cast-lengths
-overflow_cast-lengths c = omega (arith, (taken_facts c.loop-i.invariant c.loop-i-test.true (sym c.row_in.ensures ∙ c.in-Numbers.is) c.requires.sized.0).value, c.requires.sized.0.pool)
+overflow_cast-lengths c = omega (arith, (taken_facts c.loop-i.invariant c.loop-i-test.true (sym c.row_in.ensures ∙ c.in-Some.is) c.requires.sized.0).value, c.requires.sized.0.pool)
 
 pub offset_bounds-lengths-i : goal.offset_bounds-lengths-i
 offset_bounds-lengths-i c = omega (arith, c.loop-i-test.true, c.requires.sized.0.nodes)
@@ -97,16 +97,13 @@ pub overflow_add-at-in-loop-i : goal.overflow_add-at-in-loop-i
 overflow_add-at-in-loop-i c = omega (arith, taking_small c.loop-i.invariant c.loop-i-test.true c.requires.sized.0)
 
 pub overflow_add-first : goal.overflow_add-first
-overflow_add-first c = omega (arith, taken_few c.loop-i.invariant c.loop-i-test.true (sym c.row_in.ensures ∙ c.in-Numbers.is), c.requires.sized.0.attributes)
-
-pub overflow_add-i : goal.overflow_add-i
-overflow_add-i c = omega (arith, c.loop-i-test.true, c.requires.sized.0.nodes)
+overflow_add-first c = omega (arith, taken_few c.loop-i.invariant c.loop-i-test.true (sym c.row_in.ensures ∙ c.in-Some.is), c.requires.sized.0.attributes)
 
 pub loop-i-smaller : goal.loop-i-smaller
 loop-i-smaller c = omega (arith, c.loop-i-test.true)
 
 pub loop-i-preserved : goal.loop-i-preserved
-loop-i-preserved c = taking_more c.loop-i.invariant c.loop-i-test.true (sym c.row_in.ensures ∙ c.in-Numbers.is) c.requires.sized.0 c.requires.columns c.tag_in.ensures c.comment_or_marked.ensures refl
+loop-i-preserved c = taking_more c.loop-i.invariant c.loop-i-test.true (sym c.row_in.ensures ∙ c.in-Some.is) c.requires.sized.0 c.requires.columns c.tag_in.ensures c.comment_or_marked.ensures refl
 
 pub rest_right-requires : goal.rest_right-requires
 rest_right-requires c = c.requires.sized

@@ -8,4 +8,4 @@ invariant-loop-i l =
     Taking l.s l.l l.initial.depths l.initial.tags l.initial.attributes l.initial.values l.initial.lengths l.initial.left l.depths l.tags l.attributes l.values l.lengths l.left l.before l.at l.first l.i
 
 abbrev pub decreases-loop-i : goal.decreases-loop-i
-decreases-loop-i l = l.nodes - l.i
+decreases-loop-i l = l.i-end - l.i

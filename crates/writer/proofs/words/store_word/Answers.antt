@@ -1,29 +1,13 @@
 -- `store_word` meets its contract.
-use native.Mathlib.Omega.{arith}
-use lib.ListN.{length-set}
-use Rattle.common.proofs.Words.{octets_stored}
+use mathlib.Core.Path.{◌≡◌, sym, ◌∙◌}
+use Rattle.common.specs.Bytes.{Bytes}
+use Rattle.common.specs.Word.{octets}
+use Rattle.common.proofs.Words.{octets_length}
+use Rattle.writer.proofs.StoredLaws.{part_stored, octets_bytes}
 use Rattle.writer.proofs.words.store_word.Goals as goal
 
-pub bounds-out-at-2 : goal.bounds-out-at-2
-bounds-out-at-2 c = simp length-set (omega arith)
-
-pub bounds-out-at-3 : goal.bounds-out-at-3
-bounds-out-at-3 c = simp length-set (omega arith)
-
-pub bounds-out-at-4 : goal.bounds-out-at-4
-bounds-out-at-4 c = simp length-set (omega arith)
-
-pub bounds-out-at-5 : goal.bounds-out-at-5
-bounds-out-at-5 c = simp length-set (omega arith)
-
-pub bounds-out-at-6 : goal.bounds-out-at-6
-bounds-out-at-6 c = simp length-set (omega arith)
-
-pub bounds-out-at-7 : goal.bounds-out-at-7
-bounds-out-at-7 c = simp length-set (omega arith)
-
-pub bounds-out-at-8 : goal.bounds-out-at-8
-bounds-out-at-8 c = simp length-set (omega arith)
-
 pub returns : goal.returns
-returns c = octets_stored c.args.w (omega arith) c.args.out.now c.args.at
+returns c =
+    let a = c.args in
+    let e : ◌≡◌ {A = Bytes} c.copy_from_slice.new.self (octets 8 a.w) = c.copy_from_slice.ensures.after ∙ c.to_le_bytes.ensures ∙ sym (octets_bytes a.w) in
+    rw e (part_stored a.out.now (octets 8 a.w) a.at 8 (octets_length 8 a.w) c.requires)

@@ -1,5 +1,0 @@
--- `added::shows_alt` meets its contract.
-use Rattle.collect.proofs.added.shows_alt.Goals as goal
-
-pub returns-then-o : goal.returns-then-o
-returns-then-o c = rw c.if-o.true c.is_image.ensures

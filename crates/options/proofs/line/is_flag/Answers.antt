@@ -1,9 +1,0 @@
--- `line::is_flag` meets its contract.
-use borrow.Author.Tests.{lt-leb, le-leb}
-use Rattle.options.proofs.line.is_flag.Goals as goal
-
-pub returns-then-b-lt48 : goal.returns-then-b-lt48
-returns-then-b-lt48 c = simp (lt-leb _ _ c.if-b-lt48.true)
-
-pub returns : goal.returns
-returns c = simp (le-leb _ _ c.if-b-lt48.false)

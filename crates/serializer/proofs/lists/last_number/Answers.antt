@@ -1,9 +1,0 @@
--- `last_number` meets its contract.
-use borrow.Author.Tests.{eq-eqb, ne_eqb}
-use Rattle.serializer.proofs.lists.last_number.Goals as goal
-
-pub returns-then-depth-eq0 : goal.returns-then-depth-eq0
-returns-then-depth-eq0 c = rw (eq-eqb _ _ c.if-depth-eq0.true)
-
-pub returns : goal.returns
-returns c = rw (ne_eqb _ _ c.if-depth-eq0.false)

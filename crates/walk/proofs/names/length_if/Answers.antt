@@ -1,9 +1,0 @@
--- `names::length_if` meets its contract.
-use mathlib.Core.Path.{sym, ◌∙◌}
-use Rattle.walk.proofs.names.length_if.Goals as goal
-
-pub returns-then-same : goal.returns-then-same
-returns-then-same c = rw (sym c.same.ensures ∙ c.if-same.true)
-
-pub returns : goal.returns
-returns c = rw (sym c.same.ensures ∙ c.if-same.false)

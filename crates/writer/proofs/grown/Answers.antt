@@ -1,9 +1,0 @@
--- `grown` meets its contract.
-use borrow.Author.Tests.{eq-eqb, ne_eqb}
-use Rattle.writer.proofs.grown.Goals as goal
-
-pub returns-then-k-eq0 : goal.returns-then-k-eq0
-returns-then-k-eq0 c = rw (eq-eqb _ _ c.if-k-eq0.true, c.greater-peak.ensures)
-
-pub returns : goal.returns
-returns c = rw (ne_eqb _ _ c.if-k-eq0.false, c.greater-peak.ensures)
