@@ -56,7 +56,7 @@ extern "C" {
 #define LEVZHADA_VISIBLE_TEXT_OUT_TOO_SHORT 53 /* the length that out needs: the greatest that the text has on the way */
 
 /* The stack that a call takes, in bytes below its caller's frame: at most this. Measured and rounded up, not proved: tests/c/stack.c found
- * 356,888 for levzhada_extract from 257 rows on and 23,320 up to 256 rows, 4,568 for levzhada_measure and 1,912 or less for the others. */
+ * 356,984 for levzhada_extract from 257 rows on and 23,448 up to 256 rows, 4,584 for levzhada_measure and 1,928 or less for the others. */
 #define LEVZHADA_STACK 393216       /* any call, any sheet */
 #define LEVZHADA_STACK_SMALL 65536  /* levzhada_extract, a sheet of up to 256 rows */
 #define LEVZHADA_STACK_OTHERS 32768 /* every call but levzhada_extract */

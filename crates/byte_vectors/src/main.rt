@@ -15,8 +15,12 @@ fn number<P: Print>(to: &P, n: usize) -> io::Result<()> {
     print!(to; " {n}")
 }
 
+// Both digits at once: `{b:02x}` clears a buffer of its own for each byte.
 fn byte<P: Print>(to: &P, b: u8) -> io::Result<()> {
-    print!(to; "{b:02x}")
+    let digits = b"0123456789abcdef";
+    let high = digits[usize::from(b / 16)];
+    let low = digits[usize::from(b % 16)];
+    print(to, &[high, low])
 }
 
 fn bytes<P: Print>(to: &P, s: &[u8]) -> io::Result<()> {

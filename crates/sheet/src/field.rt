@@ -63,7 +63,7 @@ pub fn read_field(s: &[u8], at: usize, width: usize) -> Option<usize>
 }
 
 // The same in eight columns, by one look where there is one digit behind seven spaces, as in most.
-fn read_eight(s: &[u8], at: usize) -> Option<usize>
+pub fn read_eight(s: &[u8], at: usize) -> Option<usize>
     requires { at + 8 ≤ length s.now }
     ensures { result ≡ field_of (take 8 (drop at s.now)) }
 {
